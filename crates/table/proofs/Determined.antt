@@ -1,0 +1,49 @@
+-- Each public contract determines what comes back and every lent word: any two results that it allows are equal.
+-- `Post` is the contract itself, as the check reads it from the source: of the arguments a, the result and the parameters at exit.
+use mathlib.Core.Path.{_≡_, sym, ap, _∙_}
+use denote.Ref.{now}
+use Rattle.table.specs.Copy.{Out}
+use Rattle.table.proofs.fit.Reads as fit
+use Rattle.table.proofs.lawful.Reads as lawful
+use Rattle.table.proofs.zero.Reads as zero
+use Rattle.table.proofs.close_gap.Reads as close-gap
+use Rattle.table.proofs.apply.Reads as apply
+use Rattle.table.proofs.add.Reads as add
+use Rattle.table.proofs.drop.Reads as drop
+use Rattle.table.proofs.clear.Reads as clear
+use Rattle.table.proofs.look_up.Reads as look-up
+use Rattle.table.proofs.used.Reads as used
+
+-- two outcomes that are both what a rule says have the same answer and the same words
+same : {x y o : Out} → x ≡ o → y ≡ o → (x .answer ≡ y .answer) × (x .copy ≡ y .copy)
+same h l = (ap (λ (z : Out). z .answer) (h ∙ sym l), ap (λ (z : Out). z .copy) (h ∙ sym l))
+
+fit-determined : (κs : _) (a : _) (r q : _) (s t : _) → fit.Post κs a r s → fit.Post κs a q t → r ≡ q
+fit-determined κs a r q s t h l = h ∙ sym l
+
+lawful-determined : (κs : _) (a : _) (r q : _) (s t : _) → lawful.Post κs a r s → lawful.Post κs a q t → r ≡ q
+lawful-determined κs a r q s t h l = h ∙ sym l
+
+zero-determined : (κs : _) (a : _) (r q : _) (s t : _) → zero.Post κs a r s → zero.Post κs a q t → now (s .0) ≡ now (t .0)
+zero-determined κs a r q s t h l = h ∙ sym l
+
+close-gap-determined : (κs : _) (a : _) (r q : _) (s t : _) → close-gap.Post κs a r s → close-gap.Post κs a q t → now (s .0) ≡ now (t .0)
+close-gap-determined κs a r q s t h l = h ∙ sym l
+
+apply-determined : (κs : _) (a : _) (r q : _) (s t : _) → apply.Post κs a r s → apply.Post κs a q t → (r ≡ q) × (now (s .0) ≡ now (t .0))
+apply-determined κs a r q s t h l = same h l
+
+add-determined : (κs : _) (a : _) (r q : _) (s t : _) → add.Post κs a r s → add.Post κs a q t → (r ≡ q) × (now (s .0) ≡ now (t .0))
+add-determined κs a r q s t h l = same h l
+
+drop-determined : (κs : _) (a : _) (r q : _) (s t : _) → drop.Post κs a r s → drop.Post κs a q t → (r ≡ q) × (now (s .0) ≡ now (t .0))
+drop-determined κs a r q s t h l = same h l
+
+clear-determined : (κs : _) (a : _) (r q : _) (s t : _) → clear.Post κs a r s → clear.Post κs a q t → (r ≡ q) × (now (s .0) ≡ now (t .0))
+clear-determined κs a r q s t h l = same h l
+
+look-up-determined : (κs : _) (a : _) (r q : _) (s t : _) → look-up.Post κs a r s → look-up.Post κs a q t → now r ≡ now q
+look-up-determined κs a r q s t h l = h ∙ sym l
+
+used-determined : (κs : _) (a : _) (r q : _) (s t : _) → used.Post κs a r s → used.Post κs a q t → now r ≡ now q
+used-determined κs a r q s t h l = h ∙ sym l

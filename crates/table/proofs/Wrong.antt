@@ -1,0 +1,414 @@
+-- Wrong programs, as definitions on lists, and for each a proof that the promise is false of it: one call where the two differ.
+use Prim.Native.Nat.{ℕ, zero, suc, _+_, _-_, _*_, _^_, _%_}
+use mathlib.Core.Path.{_≡_, refl, ap}
+use mathlib.Core.Bool.{Bool, true, false, _&&_, _||_}
+use mathlib.Core.List.{List, [], _∷_, _++_}
+use borrow.Author.Tests.{eqb-false}
+use lib.ListN.{length, getD, take, drop, set, replicate}
+use lib.Dec.{eqb, leb, ltb}
+use Rattle.table.specs.declared.Answer.{Answer}
+use Rattle.table.specs.declared.Answer.the-variants.{Done, Length, Broken, Operation}
+use Rattle.table.specs.Answers.{number}
+use Rattle.table.specs.Seek.{seek}
+use Rattle.table.specs.Copy.{pairs, words, entries, spill, keyAt, countAt, usedOf, pairOf, placeOf, present, opened, closed, inserted, placed, added, dropped, removed, zeros, applied, lawful, fitness, fits, Out, applyRule, lookRule, usedRule, closeRule}
+
+-- ---- the promises, of any program
+
+abbrev FitPromise : (List ℕ → Answer) → Type 0
+FitPromise f = (w : List ℕ) → f w ≡ fitness w
+
+abbrev LawfulPromise : (ℕ → ℕ → ℕ → Bool) → Type 0
+LawfulPromise f = (kind key amount : ℕ) → f kind key amount ≡ lawful kind key amount
+
+abbrev ZeroPromise : (List ℕ → List ℕ) → Type 0
+ZeroPromise f = (w : List ℕ) → f w ≡ zeros w
+
+abbrev ClosePromise : (ℕ → ℕ → List ℕ → List ℕ) → Type 0
+ClosePromise f = (g m : ℕ) (p : List ℕ) → f g m p ≡ closeRule g m p
+
+abbrev ApplyPromise : (ℕ → ℕ → ℕ → List ℕ → Out) → Type 0
+ApplyPromise f = (kind key amount : ℕ) (w : List ℕ) → f kind key amount w ≡ applyRule kind key amount w
+
+abbrev AddPromise : (ℕ → ℕ → List ℕ → Out) → Type 0
+AddPromise f = (key amount : ℕ) (w : List ℕ) → f key amount w ≡ applyRule 1 key amount w
+
+abbrev DropPromise : (ℕ → List ℕ → Out) → Type 0
+DropPromise f = (key : ℕ) (w : List ℕ) → f key w ≡ applyRule 2 key 0 w
+
+abbrev ClearPromise : (List ℕ → Out) → Type 0
+ClearPromise f = (w : List ℕ) → f w ≡ applyRule 3 0 0 w
+
+abbrev LookPromise : (ℕ → List ℕ → List ℕ) → Type 0
+LookPromise f = (key : ℕ) (w : List ℕ) → f key w ≡ lookRule key w
+
+abbrev UsedPromise : (List ℕ → List ℕ) → Type 0
+UsedPromise f = (w : List ℕ) → f w ≡ usedRule w
+
+-- ---- what the witnesses are made of
+
+-- a number read off two results that differs, though they are said to be equal
+apart : {A : Type 0} {x y : A} (read : A → ℕ) → eqb (read x) (read y) ≡ false → x ≡ y → ⊥
+apart {x = x} {y = y} read d e = eqb-false (read x) (read y) d (ap read e)
+
+-- all that a witness computes with
+rules : Type 0
+unfolding seek added dropped applied lawful fitness applyRule lookRule usedRule closeRule
+rules = Unit {0}
+
+-- a copy that begins with these words
+abbrev copyOf : List ℕ → List ℕ
+copyOf ws = ws ++ replicate (words - length ws) 0
+
+-- a word of the copy that a call leaves, and its answer's number
+abbrev word : ℕ → Out → ℕ
+word i o = getD (o .copy) i 0
+
+abbrev answer : Out → ℕ
+answer o = number (o .answer)
+
+-- a call that is refused as the rule has it, with another effect
+abbrev calling : (List ℕ → List ℕ) → ℕ → ℕ → ℕ → List ℕ → Out
+calling effect kind key amount w =
+    elim (fits w && lawful kind key amount)
+    [ true ↦ record { answer = Done; copy = effect w } | false ↦ applyRule kind key amount w ]
+
+-- the number behind the last of the first n that passes the test, or 0
+abbrev behindLast : (ℕ → Bool) → ℕ → ℕ
+behindLast p zero = 0
+behindLast p (suc n) = elim (p n) [ true ↦ suc n | false ↦ behindLast p n ]
+
+-- the last used pair that has the key
+abbrev lastPair : ℕ → List ℕ → ℕ
+lastPair key w = behindLast (λ i. eqb (keyAt w i) key) (entries w) - 1
+
+-- ---- fit
+
+-- 513 entries pass
+abbrev oneMore : List ℕ → Answer
+oneMore w = elim (eqb (length w) words) [ true ↦ elim (leb (entries w) (pairs + 1)) [ true ↦ Done | false ↦ Broken ] | false ↦ Length ]
+
+oneMore-wrong : FitPromise oneMore → ⊥
+unfolding rules
+oneMore-wrong h = apart number refl (h (copyOf (513 ∷ [])))
+
+-- any length passes
+abbrev anyLength : List ℕ → Answer
+anyLength w = elim (leb (entries w) pairs) [ true ↦ Done | false ↦ Broken ]
+
+anyLength-wrong : FitPromise anyLength → ⊥
+unfolding rules
+anyLength-wrong h = apart number refl (h (copyOf [] ++ (0 ∷ [])))
+
+-- nothing passes
+abbrev noneFit : List ℕ → Answer
+noneFit w = Broken
+
+noneFit-wrong : FitPromise noneFit → ⊥
+unfolding rules
+noneFit-wrong h = apart number refl (h (copyOf []))
+
+-- ---- lawful
+
+abbrev bit : Bool → ℕ
+bit true = 1
+bit false = 0
+
+-- ADD of 0 passes
+abbrev addsNothing : ℕ → ℕ → ℕ → Bool
+addsNothing kind key amount = elim (eqb kind 1) [ true ↦ true | false ↦ lawful kind key amount ]
+
+addsNothing-wrong : LawfulPromise addsNothing → ⊥
+unfolding rules
+addsNothing-wrong h = apart bit refl (h 1 7 0)
+
+-- CLEAR passes with a key
+abbrev clearsKey : ℕ → ℕ → ℕ → Bool
+clearsKey kind key amount = elim (eqb kind 3) [ true ↦ eqb amount 0 | false ↦ lawful kind key amount ]
+
+clearsKey-wrong : LawfulPromise clearsKey → ⊥
+unfolding rules
+clearsKey-wrong h = apart bit refl (h 3 7 0)
+
+-- a fourth kind passes
+abbrev fourthKind : ℕ → ℕ → ℕ → Bool
+fourthKind kind key amount = elim (eqb kind 4) [ true ↦ true | false ↦ lawful kind key amount ]
+
+fourthKind-wrong : LawfulPromise fourthKind → ⊥
+unfolding rules
+fourthKind-wrong h = apart bit refl (h 4 0 0)
+
+-- nothing passes
+abbrev noneLawful : ℕ → ℕ → ℕ → Bool
+noneLawful kind key amount = false
+
+noneLawful-wrong : LawfulPromise noneLawful → ⊥
+unfolding rules
+noneLawful-wrong h = apart bit refl (h 2 7 0)
+
+-- ---- zero
+
+-- the last word is left
+abbrev butLast : List ℕ → List ℕ
+butLast w = replicate (length w - 1) 0 ++ drop (length w - 1) w
+
+butLast-wrong : ZeroPromise butLast → ⊥
+unfolding rules
+butLast-wrong h = apart (λ p. getD p 2 0) refl (h (4 ∷ 5 ∷ 6 ∷ []))
+
+-- every word is left
+abbrev leaves : List ℕ → List ℕ
+leaves w = w
+
+leaves-wrong : ZeroPromise leaves → ⊥
+unfolding rules
+leaves-wrong h = apart (λ p. getD p 0 0) refl (h (4 ∷ []))
+
+-- ---- close_gap
+
+-- the words move down, and those that they leave are not zeroed
+abbrev leavesGap : ℕ → ℕ → List ℕ → List ℕ
+leavesGap g m p = elim (leb (g + m) (length p)) [ true ↦ take m (drop g p) ++ drop m p | false ↦ p ]
+
+leavesGap-wrong : ClosePromise leavesGap → ⊥
+unfolding rules
+leavesGap-wrong h = apart (λ p. getD p 1 0) refl (h 1 1 (4 ∷ 5 ∷ []))
+
+-- the gap stays
+abbrev gapStays : ℕ → ℕ → List ℕ → List ℕ
+gapStays g m p = p
+
+gapStays-wrong : ClosePromise gapStays → ⊥
+unfolding rules
+gapStays-wrong h = apart (λ p. getD p 0 0) refl (h 1 1 (4 ∷ 5 ∷ []))
+
+-- words move where there is no room for both parts
+abbrev noRoom : ℕ → ℕ → List ℕ → List ℕ
+noRoom g m p = closed g m p
+
+noRoom-wrong : ClosePromise noRoom → ⊥
+unfolding rules
+noRoom-wrong h = apart (λ p. getD p 0 0) refl (h 1 2 (4 ∷ 5 ∷ []))
+
+-- all behind the gap moves down, and not the m words alone
+abbrev movesRest : ℕ → ℕ → List ℕ → List ℕ
+movesRest g m p = elim (leb (g + m) (length p)) [ true ↦ closed g (length p - g) p | false ↦ p ]
+
+movesRest-wrong : ClosePromise movesRest → ⊥
+unfolding rules
+movesRest-wrong h = apart (λ p. getD p 1 0) refl (h 1 1 (4 ∷ 5 ∷ 6 ∷ []))
+
+-- ---- apply
+
+-- every call is refused
+abbrev refusesAll : ℕ → ℕ → ℕ → List ℕ → Out
+refusesAll kind key amount w = record { answer = Operation; copy = w }
+
+refusesAll-wrong : ApplyPromise refusesAll → ⊥
+unfolding rules
+refusesAll-wrong h = apart answer refl (h 1 7 3 (copyOf []))
+
+-- every call is done, with nothing changed
+abbrev doesNothing : ℕ → ℕ → ℕ → List ℕ → Out
+doesNothing kind key amount w = calling (λ v. v) kind key amount w
+
+doesNothing-wrong : ApplyPromise doesNothing → ⊥
+unfolding rules
+doesNothing-wrong h = apart (word 0) refl (h 1 7 3 (copyOf []))
+
+-- the operation is judged before the copy
+abbrev operationFirst : ℕ → ℕ → ℕ → List ℕ → Out
+operationFirst kind key amount w =
+    elim (lawful kind key amount) [ true ↦ applyRule kind key amount w | false ↦ record { answer = Operation; copy = w } ]
+
+operationFirst-wrong : ApplyPromise operationFirst → ⊥
+unfolding rules
+operationFirst-wrong h = apart answer refl (h 1 7 0 [])
+
+-- a refused operation clears the copy
+abbrev refusalClears : ℕ → ℕ → ℕ → List ℕ → Out
+refusalClears kind key amount w =
+    elim (lawful kind key amount) [ true ↦ applyRule kind key amount w | false ↦ record { answer = Operation; copy = zeros w } ]
+
+refusalClears-wrong : ApplyPromise refusalClears → ⊥
+unfolding rules
+refusalClears-wrong h = apart (word 0) refl (h 1 7 0 (copyOf (1 ∷ [])))
+
+-- ---- add
+
+-- the count goes round at the top
+abbrev noTop : ℕ → ℕ → List ℕ → Out
+noTop key amount =
+    calling
+    (λ w. elim (present key w)
+    [ true ↦ set w (2 * pairOf key w + 3) ((countAt w (pairOf key w) + amount) % 2 ^ 64) | false ↦ placed key amount w ])
+    1 key amount
+
+noTop-wrong : AddPromise noTop → ⊥
+unfolding rules
+noTop-wrong h = apart (word 3) refl (h 7 5 (copyOf (1 ∷ 0 ∷ 7 ∷ (2 ^ 64 - 2) ∷ [])))
+
+-- all words behind the place move up, and not the used ones alone
+abbrev movesAll : ℕ → ℕ → List ℕ → Out
+movesAll key amount =
+    calling
+    (λ w. elim (present key w) [
+      | true ↦ added key amount w
+      | false ↦
+          let at = 2 * placeOf key w + 2 in
+          set (take at w ++ opened (length w - at - 2) key amount (drop at w)) 0 (entries w + 1)
+    ])
+    1 key amount
+
+movesAll-wrong : AddPromise movesAll → ⊥
+unfolding rules
+movesAll-wrong h = apart (word 6) refl (h 3 1 (copyOf (1 ∷ 0 ∷ 5 ∷ 1 ∷ 8 ∷ 9 ∷ [])))
+
+-- the new pair stands behind the last smaller key: the right place in a copy that is in order, and not in others
+abbrev behindSmaller : ℕ → ℕ → List ℕ → Out
+behindSmaller key amount =
+    calling
+    (λ w. elim (present key w) [
+      | true ↦ added key amount w
+      | false ↦ inserted (behindLast (λ i. ltb (keyAt w i) key) (entries w)) key amount w
+    ])
+    1 key amount
+
+behindSmaller-wrong : AddPromise behindSmaller → ⊥
+unfolding rules
+behindSmaller-wrong h = apart (word 2) refl (h 3 1 (copyOf (2 ∷ 0 ∷ 5 ∷ 1 ∷ 1 ∷ 1 ∷ [])))
+
+-- the new pair always stands at the end
+abbrev atEnd : ℕ → ℕ → List ℕ → Out
+atEnd key amount =
+    calling (λ w. elim (present key w) [ true ↦ added key amount w | false ↦ inserted (entries w) key amount w ]) 1 key amount
+
+atEnd-wrong : AddPromise atEnd → ⊥
+unfolding rules
+atEnd-wrong h = apart (word 2) refl (h 3 1 (copyOf (1 ∷ 0 ∷ 5 ∷ 1 ∷ [])))
+
+-- a full copy loses the key without a word
+abbrev noSpill : ℕ → ℕ → List ℕ → Out
+noSpill key amount =
+    calling (λ w. elim (present key w || ltb (entries w) pairs) [ true ↦ added key amount w | false ↦ w ]) 1 key amount
+
+noSpill-wrong : AddPromise noSpill → ⊥
+unfolding rules
+noSpill-wrong h = apart (word 1) refl (h 7 1 (copyOf (512 ∷ [])))
+
+-- ---- drop
+
+-- the place that is freed keeps its words
+abbrev leavesPlace : ℕ → List ℕ → Out
+leavesPlace key =
+    calling
+    (λ w. elim (present key w) [
+      | true ↦
+          let at = 2 * pairOf key w + 2 in
+          let m = 2 * (entries w - pairOf key w - 1) in
+          set (take at w ++ (take m (drop (at + 2) w) ++ drop (at + m) w)) 0 (entries w - 1)
+      | false ↦ w
+    ])
+    2 key 0
+
+leavesPlace-wrong : DropPromise leavesPlace → ⊥
+unfolding rules
+leavesPlace-wrong h = apart (word 2) refl (h 7 (copyOf (1 ∷ 0 ∷ 7 ∷ 3 ∷ [])))
+
+-- of two pairs with the key the last goes
+abbrev dropsLast : ℕ → List ℕ → Out
+dropsLast key =
+    calling
+    (λ w. elim (present key w) [ true ↦ removed (lastPair key w) w | false ↦ w ]) 2 key 0
+
+dropsLast-wrong : DropPromise dropsLast → ⊥
+unfolding rules
+dropsLast-wrong h = apart (word 3) refl (h 7 (copyOf (2 ∷ 0 ∷ 7 ∷ 3 ∷ 7 ∷ 4 ∷ [])))
+
+-- the pair goes and the entry count stays
+abbrev keepsCount : ℕ → List ℕ → Out
+keepsCount key = calling (λ w. set (dropped key w) 0 (entries w)) 2 key 0
+
+keepsCount-wrong : DropPromise keepsCount → ⊥
+unfolding rules
+keepsCount-wrong h = apart (word 0) refl (h 7 (copyOf (1 ∷ 0 ∷ 7 ∷ 3 ∷ [])))
+
+-- ---- clear
+
+-- the used part alone is zeroed
+abbrev clearsUsed : List ℕ → Out
+clearsUsed = calling (λ w. zeros (usedOf w) ++ drop (2 * entries w + 2) w) 3 0 0
+
+clearsUsed-wrong : ClearPromise clearsUsed → ⊥
+unfolding rules
+clearsUsed-wrong h = apart (word 2) refl (h (copyOf (0 ∷ 0 ∷ 7 ∷ [])))
+
+-- the spill stays
+abbrev keepsSpill : List ℕ → Out
+keepsSpill = calling (λ w. set (zeros w) 1 (spill w)) 3 0 0
+
+keepsSpill-wrong : ClearPromise keepsSpill → ⊥
+unfolding rules
+keepsSpill-wrong h = apart (word 1) refl (h (copyOf (0 ∷ 5 ∷ [])))
+
+-- ---- look_up
+
+-- of two pairs with the key the last is shown
+abbrev looksLast : ℕ → List ℕ → List ℕ
+looksLast key w =
+    elim (fits w && present key w)
+    [ true ↦ take 2 (drop (2 * lastPair key w + 2) w) | false ↦ [] ]
+
+looksLast-wrong : LookPromise looksLast → ⊥
+unfolding rules
+looksLast-wrong h = apart (λ p. getD p 1 0) refl (h 7 (copyOf (2 ∷ 0 ∷ 7 ∷ 3 ∷ 7 ∷ 4 ∷ [])))
+
+-- no key is ever found
+abbrev looksNowhere : ℕ → List ℕ → List ℕ
+looksNowhere key w = []
+
+looksNowhere-wrong : LookPromise looksNowhere → ⊥
+unfolding rules
+looksNowhere-wrong h = apart length refl (h 7 (copyOf (1 ∷ 0 ∷ 7 ∷ 3 ∷ [])))
+
+-- pairs behind the used part are found too
+abbrev looksBehind : ℕ → List ℕ → List ℕ
+looksBehind key w =
+    elim (fits w) [ true ↦ take 2 (drop (2 * seek (λ i. eqb (keyAt w i) key) 0 pairs + 2) w) | false ↦ [] ]
+
+looksBehind-wrong : LookPromise looksBehind → ⊥
+unfolding rules
+looksBehind-wrong h = apart length refl (h 7 (copyOf (0 ∷ 0 ∷ 7 ∷ 3 ∷ [])))
+
+-- the count alone is shown
+abbrev looksCount : ℕ → List ℕ → List ℕ
+looksCount key w = drop 1 (lookRule key w)
+
+looksCount-wrong : LookPromise looksCount → ⊥
+unfolding rules
+looksCount-wrong h = apart length refl (h 7 (copyOf (1 ∷ 0 ∷ 7 ∷ 3 ∷ [])))
+
+-- ---- used
+
+-- a pair is missing
+abbrev onePairShort : List ℕ → List ℕ
+onePairShort w = elim (fits w) [ true ↦ take (2 * entries w) w | false ↦ [] ]
+
+onePairShort-wrong : UsedPromise onePairShort → ⊥
+unfolding rules
+onePairShort-wrong h = apart length refl (h (copyOf (1 ∷ 0 ∷ 7 ∷ 3 ∷ [])))
+
+-- the whole copy is shown
+abbrev showsAll : List ℕ → List ℕ
+showsAll w = elim (fits w) [ true ↦ w | false ↦ [] ]
+
+showsAll-wrong : UsedPromise showsAll → ⊥
+unfolding rules
+showsAll-wrong h = apart length refl (h (copyOf (1 ∷ 0 ∷ 7 ∷ 3 ∷ [])))
+
+-- the empty table is shown always
+abbrev showsEmpty : List ℕ → List ℕ
+showsEmpty w = elim (fits w) [ true ↦ 0 ∷ 0 ∷ [] | false ↦ [] ]
+
+showsEmpty-wrong : UsedPromise showsEmpty → ⊥
+unfolding rules
+showsEmpty-wrong h = apart length refl (h (copyOf (1 ∷ 0 ∷ 7 ∷ 3 ∷ [])))

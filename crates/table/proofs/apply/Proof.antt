@@ -1,0 +1,60 @@
+-- Each answer is the rule's under the tests that led to it; past the first the copy is fit.
+use borrow.Author.Needs.{needs}
+use mathlib.Core.Path.{sym, _∙_}
+use borrow.Author.Tests.{not-true, not-false}
+use Rattle.table.proofs.Cases.{fits-fit, apply-unfit, apply-unlawful, apply-made}
+use Rattle.table.proofs.apply.Statement.{statement}
+use Rattle.table.proofs.apply.Tie as tie
+
+is-fit-requires : tie.Need-is-fit-requires
+is-fit-requires c κs = search needs
+
+fit-requires : tie.Need-fit-requires
+fit-requires c κs = search needs
+
+same-length : tie.Need-same-length
+same-length c = search needs
+
+returns : tie.Need-returns
+returns c =
+    let a = c .before .before .before .before .before .before .args in
+    rw (c .fit .ensures)
+    (sym (apply-unfit (a .kind) (a .key) (a .amount) (a .w .now) (sym (c .before .before .before .is-fit .ensures) ∙ not-true _ (c .before .before .if1 .taken))))
+
+lawful-requires : tie.Need-lawful-requires
+lawful-requires c κs = search needs
+
+same-length-2 : tie.Need-same-length-2
+same-length-2 c = search needs
+
+returns-2 : tie.Need-returns-2
+returns-2 c =
+    sym (apply-unlawful _ _ _ _ (sym (c .before .before .before .is-fit .ensures) ∙ not-false _ (c .before .before .if1 .left)) (sym (c .before .lawful .ensures) ∙ not-true _ (c .if2 .taken)))
+
+effect-requires : tie.Need-effect-requires
+effect-requires c κs =
+    fits-fit (c .before .before .before .before .before .before .before .args .w .now) (sym (c .before .before .before .before .is-fit .ensures) ∙ not-false _ (c .before .before .before .if1 .left))
+
+same-length-3 : tie.Need-same-length-3
+same-length-3 c = search needs
+
+returns-3 : tie.Need-returns-3
+returns-3 c =
+    let a = c .before .before .before .before .before .before .before .before .before .before .args in
+    rw (c .before .before .effect .ensures)
+    (sym (apply-made (a .kind) (a .key) (a .amount) (a .w .now) (sym (c .before .before .before .before .before .before .before .is-fit .ensures) ∙ not-false _ (c .before .before .before .before .before .before .if1 .left)) (sym (c .before .before .before .before .before .lawful .ensures) ∙ not-false _ (c .before .before .before .before .if2 .left))))
+
+pub apply-spec : {M : Type 1} → statement M
+apply-spec =
+    tie.close
+    (tie.spec
+    is-fit-requires
+    fit-requires
+    same-length
+    returns
+    lawful-requires
+    same-length-2
+    returns-2
+    effect-requires
+    same-length-3
+    returns-3)

@@ -1,0 +1,75 @@
+-- After j turns the first j words are those that stand g further on, and the rest are as they came.
+use Prim.Native.Nat.{_≤_, _-_}
+use mathlib.Core.Path.{_≡_}
+use native.Mathlib.Omega.{arith}
+use borrow.Author.Needs.{needs}
+use lib.ListN.{length, drop, length-set}
+use Rattle.table.proofs.Moves.{over, over-down}
+use Rattle.table.proofs.move_down.Statement.{statement}
+use Rattle.table.proofs.move_down.Tie as tie
+
+abbrev Inv-loop : tie.InvT-loop
+Inv-loop part₀ g m j₀ part j = (j ≤ m) × (length part ≡ length part₀) × (part ≡ over j (drop g part₀) part₀)
+
+abbrev μ-loop : tie.MeasureT-loop
+μ-loop part₀ g m j₀ part j = m - j
+
+loop-holds : tie.Need-loop-holds Inv-loop μ-loop
+loop-holds c = search needs
+
+add-part : tie.Need-add-part Inv-loop μ-loop
+add-part c = search needs
+
+mul-part : tie.Need-mul-part Inv-loop μ-loop
+mul-part c = search needs
+
+slice-read-part : tie.Need-slice-read-part Inv-loop μ-loop
+slice-read-part c = search needs
+
+mul-part-2 : tie.Need-mul-part-2 Inv-loop μ-loop
+mul-part-2 c = search needs
+
+slice-write-part : tie.Need-slice-write-part Inv-loop μ-loop
+slice-write-part c = search needs
+
+add-j : tie.Need-add-j Inv-loop μ-loop
+add-j c = search needs
+
+loop-less : tie.Need-loop-less Inv-loop μ-loop
+loop-less c = search needs
+
+loop-again : tie.Need-loop-again Inv-loop μ-loop
+loop-again c =
+    let at = c .before .before in
+    let p = at .before .args .part .now in (
+      search needs,
+      simp length-set (search needs),
+      rw (at .loop .inv .2) (over-down (at .loop .j) (at .before .args .g) p (search needs)),
+    )
+
+same-length : tie.Need-same-length Inv-loop μ-loop
+same-length c = search needs
+
+returns : tie.Need-returns Inv-loop μ-loop
+returns c =
+    let a = c .before .before .args in
+    let e : c .before .loop .j ≡ a .m = omega arith in
+    rw (c .before .loop .inv .2, e)
+
+pub move-down-spec : {M : Type 1} → statement M
+move-down-spec =
+    tie.close
+    (tie.spec
+    Inv-loop
+    μ-loop
+    loop-holds
+    add-part
+    mul-part
+    slice-read-part
+    mul-part-2
+    slice-write-part
+    add-j
+    loop-less
+    loop-again
+    same-length
+    returns)

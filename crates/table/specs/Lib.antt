@@ -1,0 +1,5 @@
+pub mod Answers
+pub mod Seek
+pub mod Copy
+pub mod Order
+pub mod Map
