@@ -1,0 +1,267 @@
+-- The rules, case by case: what each is under the tests that lead there.
+use Prim.Native.Nat.{ℕ, zero, suc, _*_, _≤_, _<_}
+use mathlib.Core.Path.{_≡_, refl, sym, ap, _∙_}
+use mathlib.Core.Bool.{Bool, true, false, _&&_}
+use mathlib.Core.List.{List, [], _∷_}
+use borrow.Author.Tests.{le-leb, lt-leb, lt-ltb, le-ltb, eqb-true, leb-true, leb-false}
+use native.Mathlib.Omega.{arith}
+use lib.ListN.{length, getD, set}
+use lib.Dec.{eqb, leb}
+use Rattle.table.proofs.Split.{split}
+use Rattle.table.specs.Copy.{pairs, words, entries, zeros}
+use Rattle.table.specs.declared.Answer.{Answer}
+use Rattle.table.specs.declared.Answer.the-variants as answer
+use Rattle.read.specs.declared.Due.{Due}
+use Rattle.read.specs.declared.Due.the-variants.{Load}
+use Rattle.read.specs.declared.Guard.{Guard}
+use Rattle.read.specs.declared.Slot.{Slot}
+use Rattle.read.specs.declared.Control.{Control}
+use Rattle.read.specs.declared.Handle.{Handle}
+use Rattle.read.specs.declared.Handle.the-variants.{GoOn, LookUp}
+use Rattle.read.specs.declared.Verdict.the-variants.{Admitted, Refused}
+use Rattle.read.specs.declared.State.{State}
+use Rattle.read.specs.declared.Made.{Made}
+use Rattle.read.specs.declared.Reply.{Reply}
+use Rattle.read.specs.Machine.{slotCount, newSlot, fresh, logRoom, logWords, guardCount, shut, isOpen, standsRight, putGuard, firstGuard, anyOpen, allOpen, isLoad, wholeControl, sized, glanced, judged, firstUnlawful}
+use Rattle.read.specs.Handles.{copyOf, guardedCopy, bumped, withDue, guarded, loaded, entered, released, lacksRoom, smallest, handleSigns, handled, handleOn}
+use Rattle.read.specs.Calls.{slotAt, withSlot, refusal, lent, firstFree, createSigns, handleReply, handleRule, createReply, createRule, throughGuard, throughRule, startRule}
+use Rattle.read.proofs.Tests.{and-left, and-right, and-false}
+use Rattle.read.proofs.Verdicts.{refused-admitted, admitted-clear}
+
+-- ---- guards
+
+module _ (gs : List Guard) (j : ℕ) where
+  pub open-in : j < guardCount → isOpen gs j ≡ getD gs j shut .opened
+  open-in h = rw (lt-ltb j guardCount h)
+
+  pub open-out : guardCount ≤ j → isOpen gs j ≡ false
+  open-out h = rw (le-ltb j guardCount h)
+
+  pub stands-in : j < guardCount → standsRight gs j ≡ getD gs j shut .right
+  stands-in h = rw (lt-ltb j guardCount h)
+
+  pub stands-out : guardCount ≤ j → standsRight gs j ≡ false
+  stands-out h = rw (le-ltb j guardCount h)
+
+  pub copy-right : (l r : List ℕ) → standsRight gs j ≡ true → guardedCopy gs j l r ≡ r
+  copy-right l r e = ap (λ b. copyOf b l r) e
+
+  pub copy-left : (l r : List ℕ) → standsRight gs j ≡ false → guardedCopy gs j l r ≡ l
+  copy-left l r e = ap (λ b. copyOf b l r) e
+
+module _ (j : ℕ) (x : Guard) (gs : List Guard) where
+  pub put-in : j < guardCount → putGuard j x gs ≡ set gs j x
+  put-in h = rw (lt-ltb j guardCount h, putGuard)
+
+  pub put-out : guardCount ≤ j → putGuard j x gs ≡ gs
+  put-out h = rw (le-ltb j guardCount h, putGuard)
+
+-- ---- what is done to a slot
+
+module _ (c : Control) (d : Due) (s : Slot) where
+  pub loaded-null : c .null ≡ true → loaded c d s ≡ record { answer = answer.None; value = 0; slot = withDue (s .epoch) d s }
+  loaded-null e = rw (e, loaded)
+
+  pub loaded-side :
+      c .null ≡ false → loaded c d s ≡ record { answer = answer.Done; value = firstGuard false (s .guards); slot = guarded (c .right) s }
+  loaded-side e = rw (e, loaded)
+
+module _ (c : Control) (s : Slot) where
+  pub entered-inside : anyOpen (s .guards) ≡ true → entered c s ≡ loaded c (s .due) s
+  entered-inside e = rw (e, entered)
+
+  pub entered-outside :
+      anyOpen (s .guards) ≡ false → entered c s ≡ record { answer = answer.Done; value = 0; slot = withDue (bumped (s .epoch)) Load s }
+  entered-outside e = rw (e, entered)
+
+module _ (j : ℕ) (s : Slot) where
+  pub released-one :
+      anyOpen (putGuard j shut (s .guards)) ≡ true →
+      released j s ≡ record { used = s .used; epoch = s .epoch; guards = putGuard j shut (s .guards); due = s .due }
+  released-one e = rw (e, released)
+
+  pub released-last :
+      anyOpen (putGuard j shut (s .guards)) ≡ false →
+      released j s ≡ record { used = s .used; epoch = bumped (s .epoch); guards = putGuard j shut (s .guards); due = s .due }
+  released-last e = rw (e, released)
+
+-- ---- room for a guard
+
+module _ (null : Bool) (s : Slot) where
+  pub room-null : null ≡ true → lacksRoom GoOn null s ≡ false
+  room-null e = rw e (and-false (isLoad (s .due)))
+
+  pub room-load : isLoad (s .due) ≡ true → null ≡ false → lacksRoom GoOn null s ≡ allOpen (s .guards)
+  room-load e n = rw (e, n)
+
+  pub room-none : isLoad (s .due) ≡ false → lacksRoom GoOn null s ≡ false
+  room-none e = rw e
+
+-- ---- the judgement
+
+-- the lengths that the slices must have
+pub record Sized (l r g : List ℕ) : Type 0 where
+  pub left : length l ≡ words
+  pub right : length r ≡ words
+  pub log : length g ≡ logWords
+
+module _ (l r g : List ℕ) where
+  pub sized-lengths : sized l r g ≡ true → Sized l r g
+  sized-lengths e =
+      let a : Bool = eqb (length l) words in
+      let b : Bool = eqb (length r) words in
+      let d : Bool = eqb (length g) logWords in
+      let f : (b && d) ≡ true = and-right a (b && d) e in
+      record {
+        left = eqb-true (length l) words (and-left a (b && d) e);
+        right = eqb-true (length r) words (and-left b d f);
+        log = eqb-true (length g) logWords (and-right b d f);
+      }
+
+whole-length : (c : Control) → wholeControl c ≡ true → c .length ≤ logRoom
+whole-length c e = leb-true (c .length) logRoom (and-left (leb (c .length) logRoom) _ e)
+
+module _ (c : Control) (l r g : List ℕ) where
+  pub glanced-length : sized l r g ≡ false → glanced c l r g ≡ Refused answer.Length
+  unfolding glanced
+  glanced-length e = rw (e, glanced)
+
+  pub glanced-broken :
+      sized l r g ≡ true → (leb (entries l) pairs && (leb (entries r) pairs && wholeControl c)) ≡ false →
+      glanced c l r g ≡ Refused answer.Broken
+  unfolding glanced
+  glanced-broken e f = rw (e, f, glanced)
+
+  pub glanced-whole :
+      sized l r g ≡ true → (leb (entries l) pairs && (leb (entries r) pairs && wholeControl c)) ≡ true → glanced c l r g ≡ Admitted
+  unfolding glanced
+  glanced-whole e f = rw (e, f, glanced)
+
+  pub judged-refused : (a : Answer) → glanced c l r g ≡ Refused a → judged c l r g ≡ Refused a
+  unfolding judged
+  judged-refused a e = rw (e, judged)
+
+  pub judged-broken : glanced c l r g ≡ Admitted → firstUnlawful (c .length) g < c .length → judged c l r g ≡ Refused answer.Broken
+  unfolding judged
+  judged-broken e f = rw (e, lt-leb (c .length) (firstUnlawful (c .length) g) f, judged)
+
+  pub judged-whole : glanced c l r g ≡ Admitted → c .length ≤ firstUnlawful (c .length) g → judged c l r g ≡ Admitted
+  unfolding judged
+  judged-whole e f = rw (e, le-leb (c .length) (firstUnlawful (c .length) g) f, judged)
+
+  -- the log has room for the operations that the control part counts
+  pub glanced-room : glanced c l r g ≡ Admitted → 3 * c .length ≤ length g
+  glanced-room e =
+      split (sized l r g)
+      (λ s. split (leb (entries l) pairs && (leb (entries r) pairs && wholeControl c))
+      (λ w. omega (arith, sized-lengths l r g s, whole-length c (and-right (leb (entries r) pairs) (wholeControl c) (and-right (leb (entries l) pairs) _ w))))
+      (λ w. absurd (refused-admitted answer.Broken (sym (glanced-broken s w) ∙ e))))
+      (λ s. absurd (refused-admitted answer.Length (sym (glanced-length s) ∙ e)))
+
+-- ---- slots
+
+-- whether a slot is in use does not go by what else a read past the end finds
+pub used-past : (ss : List Slot) (i : ℕ) (d e : Slot) → d .used ≡ e .used → getD ss i d .used ≡ getD ss i e .used
+used-past [] i d e h = h
+used-past (s ∷ ss) zero d e h = refl
+used-past (s ∷ ss) (suc i) d e h = used-past ss i d e h
+
+-- nor does a read within go by it
+pub getD-within : (ss : List Slot) (i : ℕ) (d e : Slot) → i < length ss → getD ss i d ≡ getD ss i e
+getD-within [] i d e h = absurd (omega arith)
+getD-within (s ∷ ss) zero d e h = refl
+getD-within (s ∷ ss) (suc i) d e h = getD-within ss i d e (omega arith)
+
+-- ---- calls on a handle
+
+module _ (c : Control) (own : Bool) (s : Slot) (h : Handle) (l r : List ℕ) where
+  pub handle-refused :
+      (a : Answer) → smallest (handleSigns c own s h) ≡ Refused a → handleOn c own s h l r ≡ record { answer = a; value = 0; slot = s }
+  unfolding handleOn
+  handle-refused a e = rw (e, handleOn)
+
+  pub handle-made : smallest (handleSigns c own s h) ≡ Admitted → handleOn c own s h l r ≡ handled c s h l r
+  unfolding handleOn
+  handle-made e = rw (e, handleOn)
+
+-- what a call that is judged hands back, from what is made of the slot
+abbrev pub madeReply : ℕ → Made → State → Reply
+madeReply i m st = record { answer = m .answer; value = m .value; state = withSlot i (m .slot) st }
+
+module _ (i : ℕ) (h : Handle) (l r : List ℕ) (st : State) where
+  pub reply-past : slotCount ≤ i → handleReply i h l r st ≡ refusal answer.NoSlot st
+  reply-past p = rw (le-ltb i slotCount p, handleReply)
+
+  pub reply-in : i < slotCount → handleReply i h l r st ≡ madeReply i (handleOn (st .control) (eqb i 0) (slotAt st i) h l r) st
+  reply-in p = rw (lt-ltb i slotCount p, handleReply)
+
+  module _ (g : List ℕ) where
+    pub call-refused : (a : Answer) → judged (st .control) l r g ≡ Refused a → handleRule i h l r g st ≡ refusal a st
+    unfolding handleRule
+    call-refused a e = rw (e, handleRule)
+
+    pub call-judged : judged (st .control) l r g ≡ Admitted → handleRule i h l r g st ≡ handleReply i h l r st
+    unfolding handleRule
+    call-judged e = rw (e, handleRule)
+
+-- ---- create
+
+module _ (i : ℕ) (st : State) where
+  pub create-refused : (a : Answer) → smallest (createSigns (st .control) i) ≡ Refused a → createReply i st ≡ refusal a st
+  create-refused a e = rw (e, createReply)
+
+  pub create-made :
+      smallest (createSigns (st .control) i) ≡ Admitted →
+      createReply i st ≡ record { answer = answer.Done; value = i; state = withSlot i newSlot st }
+  create-made e = rw (e, createReply)
+
+  -- where it is made, the slot is there
+  pub create-room : smallest (createSigns (st .control) i) ≡ Admitted → i < slotCount
+  create-room e = leb-false slotCount i (admitted-clear (createSigns (st .control) i) e .«slots_full»)
+
+module _ (l r g : List ℕ) (st : State) where
+  pub new-refused : (a : Answer) → judged (st .control) l r g ≡ Refused a → createRule l r g st ≡ refusal a st
+  unfolding createRule
+  new-refused a e = rw (e, createRule)
+
+  pub new-judged : judged (st .control) l r g ≡ Admitted → createRule l r g st ≡ createReply (firstFree (st .slots)) st
+  unfolding createRule
+  new-judged e = rw (e, createRule)
+
+-- ---- a guard's view
+
+module _ (i j : ℕ) (l r : List ℕ) (st : State) where
+  pub guard-past : slotCount ≤ i → throughGuard i j l r st ≡ []
+  guard-past p = rw (le-ltb i slotCount p, throughGuard)
+
+  pub guard-refused :
+      i < slotCount → (a : Answer) → smallest (handleSigns (st .control) (eqb i 0) (slotAt st i) (LookUp j 0)) ≡ Refused a →
+      throughGuard i j l r st ≡ []
+  guard-refused p a e = rw (lt-ltb i slotCount p, e, throughGuard)
+
+  pub guard-shown :
+      i < slotCount → smallest (handleSigns (st .control) (eqb i 0) (slotAt st i) (LookUp j 0)) ≡ Admitted →
+      throughGuard i j l r st ≡ guardedCopy (slotAt st i .guards) j l r
+  guard-shown p e = rw (lt-ltb i slotCount p, e, throughGuard)
+
+  module _ (g : List ℕ) where
+    pub through-refused : (a : Answer) → judged (st .control) l r g ≡ Refused a → throughRule i j l r g st ≡ []
+    unfolding throughRule
+    through-refused a e = rw (e, throughRule)
+
+    pub through-judged : judged (st .control) l r g ≡ Admitted → throughRule i j l r g st ≡ throughGuard i j l r st
+    unfolding throughRule
+    through-judged e = rw (e, throughRule)
+
+-- ---- start
+
+module _ (l r g : List ℕ) where
+  pub start-refused : sized l r g ≡ false → startRule l r g ≡ lent (refusal answer.Length fresh) l r g
+  unfolding startRule
+  start-refused e = rw (e, startRule)
+
+  pub start-made :
+      sized l r g ≡ true →
+      startRule l r g ≡ lent (record { answer = answer.Done; value = 0; state = fresh }) (zeros l) (zeros r) (zeros g)
+  unfolding startRule
+  start-made e = rw (e, startRule)

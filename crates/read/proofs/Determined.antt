@@ -1,0 +1,154 @@
+-- Each public contract determines what comes back and every lent word: any two results that it allows are equal.
+-- `Post` is the contract itself, as the check reads it from the source: of the arguments a, the result and the parameters at exit.
+use mathlib.Core.Path.{_≡_, sym, ap, _∙_}
+use denote.Ref.{now}
+use Rattle.read.specs.declared.Reply.{Reply}
+use Rattle.read.specs.Calls.{Lent}
+use Rattle.read.proofs.admission.entry.Reads as admission-entry
+use Rattle.read.proofs.admission.column.Reads as admission-column
+use Rattle.read.proofs.guards.first_guard.Reads as guards-first-guard
+use Rattle.read.proofs.guards.is_open.Reads as guards-is-open
+use Rattle.read.proofs.guards.any_open.Reads as guards-any-open
+use Rattle.read.proofs.guards.all_open.Reads as guards-all-open
+use Rattle.read.proofs.guards.is_due.Reads as guards-is-due
+use Rattle.read.proofs.guards.is_load.Reads as guards-is-load
+use Rattle.read.proofs.guards.no_slot.Reads as guards-no-slot
+use Rattle.read.proofs.guards.new_slot.Reads as guards-new-slot
+use Rattle.read.proofs.guards.freed.Reads as guards-freed
+use Rattle.read.proofs.guards.entered.Reads as guards-entered
+use Rattle.read.proofs.guards.went_on.Reads as guards-went-on
+use Rattle.read.proofs.guards.released.Reads as guards-released
+use Rattle.read.proofs.handles.signs.Reads as handles-signs
+use Rattle.read.proofs.handles.guarded_copy.Reads as handles-guarded-copy
+use Rattle.read.proofs.judge.either.Reads as judge-either
+use Rattle.read.proofs.judge.smallest.Reads as judge-smallest
+use Rattle.read.proofs.judge.locks.Reads as judge-locks
+use Rattle.read.proofs.judge.nulls.Reads as judge-nulls
+use Rattle.read.proofs.judge.same.Reads as judge-same
+use Rattle.read.proofs.judge.sized.Reads as judge-sized
+use Rattle.read.proofs.judge.glance.Reads as judge-glance
+use Rattle.read.proofs.judge.judge.Reads as judge-judge
+use Rattle.read.proofs.start.Reads as start
+use Rattle.read.proofs.create.Reads as create
+use Rattle.read.proofs.drop.Reads as drop
+use Rattle.read.proofs.enter.Reads as enter
+use Rattle.read.proofs.go_on.Reads as go-on
+use Rattle.read.proofs.handles.handle.Reads as handles-handle
+use Rattle.read.proofs.on_handle.Reads as on-handle
+use Rattle.read.proofs.release.Reads as release
+use Rattle.read.proofs.look_up.Reads as look-up
+use Rattle.read.proofs.was_dropped.Reads as was-dropped
+use Rattle.read.proofs.view.Reads as view
+use Rattle.read.proofs.pair.Reads as pair
+
+admission-entry-determined : (κs : _) (a : _) (r q : _) (s t : _) → admission-entry.Post κs a r s → admission-entry.Post κs a q t → r ≡ q
+admission-entry-determined κs a r q s t h l = h ∙ sym l
+
+admission-column-determined : (κs : _) (a : _) (r q : _) (s t : _) → admission-column.Post κs a r s → admission-column.Post κs a q t → r ≡ q
+admission-column-determined κs a r q s t h l = h ∙ sym l
+
+guards-first-guard-determined : (κs : _) (a : _) (r q : _) (s t : _) → guards-first-guard.Post κs a r s → guards-first-guard.Post κs a q t → r ≡ q
+guards-first-guard-determined κs a r q s t h l = h ∙ sym l
+
+guards-is-open-determined : (κs : _) (a : _) (r q : _) (s t : _) → guards-is-open.Post κs a r s → guards-is-open.Post κs a q t → r ≡ q
+guards-is-open-determined κs a r q s t h l = h ∙ sym l
+
+guards-any-open-determined : (κs : _) (a : _) (r q : _) (s t : _) → guards-any-open.Post κs a r s → guards-any-open.Post κs a q t → r ≡ q
+guards-any-open-determined κs a r q s t h l = h ∙ sym l
+
+guards-all-open-determined : (κs : _) (a : _) (r q : _) (s t : _) → guards-all-open.Post κs a r s → guards-all-open.Post κs a q t → r ≡ q
+guards-all-open-determined κs a r q s t h l = h ∙ sym l
+
+guards-is-due-determined : (κs : _) (a : _) (r q : _) (s t : _) → guards-is-due.Post κs a r s → guards-is-due.Post κs a q t → r ≡ q
+guards-is-due-determined κs a r q s t h l = h ∙ sym l
+
+guards-is-load-determined : (κs : _) (a : _) (r q : _) (s t : _) → guards-is-load.Post κs a r s → guards-is-load.Post κs a q t → r ≡ q
+guards-is-load-determined κs a r q s t h l = h ∙ sym l
+
+guards-no-slot-determined : (κs : _) (a : _) (r q : _) (s t : _) → guards-no-slot.Post κs a r s → guards-no-slot.Post κs a q t → r ≡ q
+guards-no-slot-determined κs a r q s t h l = h ∙ sym l
+
+guards-new-slot-determined : (κs : _) (a : _) (r q : _) (s t : _) → guards-new-slot.Post κs a r s → guards-new-slot.Post κs a q t → r ≡ q
+guards-new-slot-determined κs a r q s t h l = h ∙ sym l
+
+guards-freed-determined : (κs : _) (a : _) (r q : _) (s t : _) → guards-freed.Post κs a r s → guards-freed.Post κs a q t → r ≡ q
+guards-freed-determined κs a r q s t h l = h ∙ sym l
+
+guards-entered-determined : (κs : _) (a : _) (r q : _) (s t : _) → guards-entered.Post κs a r s → guards-entered.Post κs a q t → r ≡ q
+guards-entered-determined κs a r q s t h l = h ∙ sym l
+
+guards-went-on-determined : (κs : _) (a : _) (r q : _) (s t : _) → guards-went-on.Post κs a r s → guards-went-on.Post κs a q t → r ≡ q
+guards-went-on-determined κs a r q s t h l = h ∙ sym l
+
+guards-released-determined : (κs : _) (a : _) (r q : _) (s t : _) → guards-released.Post κs a r s → guards-released.Post κs a q t → r ≡ q
+guards-released-determined κs a r q s t h l = h ∙ sym l
+
+handles-signs-determined : (κs : _) (a : _) (r q : _) (s t : _) → handles-signs.Post κs a r s → handles-signs.Post κs a q t → r ≡ q
+handles-signs-determined κs a r q s t h l = h ∙ sym l
+
+handles-guarded-copy-determined : (κs : _) (a : _) (r q : _) (s t : _) → handles-guarded-copy.Post κs a r s → handles-guarded-copy.Post κs a q t → now r ≡ now q
+handles-guarded-copy-determined κs a r q s t h l = h ∙ sym l
+
+judge-either-determined : (κs : _) (a : _) (r q : _) (s t : _) → judge-either.Post κs a r s → judge-either.Post κs a q t → r ≡ q
+judge-either-determined κs a r q s t h l = h ∙ sym l
+
+judge-smallest-determined : (κs : _) (a : _) (r q : _) (s t : _) → judge-smallest.Post κs a r s → judge-smallest.Post κs a q t → r ≡ q
+judge-smallest-determined κs a r q s t h l = h ∙ sym l
+
+judge-locks-determined : (κs : _) (a : _) (r q : _) (s t : _) → judge-locks.Post κs a r s → judge-locks.Post κs a q t → r ≡ q
+judge-locks-determined κs a r q s t h l = h ∙ sym l
+
+judge-nulls-determined : (κs : _) (a : _) (r q : _) (s t : _) → judge-nulls.Post κs a r s → judge-nulls.Post κs a q t → r ≡ q
+judge-nulls-determined κs a r q s t h l = h ∙ sym l
+
+judge-same-determined : (κs : _) (a : _) (r q : _) (s t : _) → judge-same.Post κs a r s → judge-same.Post κs a q t → r ≡ q
+judge-same-determined κs a r q s t h l = h ∙ sym l
+
+judge-sized-determined : (κs : _) (a : _) (r q : _) (s t : _) → judge-sized.Post κs a r s → judge-sized.Post κs a q t → r ≡ q
+judge-sized-determined κs a r q s t h l = h ∙ sym l
+
+judge-glance-determined : (κs : _) (a : _) (r q : _) (s t : _) → judge-glance.Post κs a r s → judge-glance.Post κs a q t → r ≡ q
+judge-glance-determined κs a r q s t h l = h ∙ sym l
+
+judge-judge-determined : (κs : _) (a : _) (r q : _) (s t : _) → judge-judge.Post κs a r s → judge-judge.Post κs a q t → r ≡ q
+judge-judge-determined κs a r q s t h l = h ∙ sym l
+
+-- the answer with its state, and the three slices
+start-determined :
+    (κs : _) (a : _) (r q : _) (s t : _) → start.Post κs a r s → start.Post κs a q t →
+    (r ≡ q) × (now (s .0) ≡ now (t .0)) × (now (s .1 .0) ≡ now (t .1 .0)) × (now (s .1 .1 .0) ≡ now (t .1 .1 .0))
+start-determined κs a r q s t h l =
+    (ap (λ (z : Lent Reply). z .made) (h ∙ sym l), ap (λ (z : Lent Reply). z .left) (h ∙ sym l), ap (λ (z : Lent Reply). z .right) (h ∙ sym l), ap (λ (z : Lent Reply). z .log) (h ∙ sym l))
+
+create-determined : (κs : _) (a : _) (r q : _) (s t : _) → create.Post κs a r s → create.Post κs a q t → r ≡ q
+create-determined κs a r q s t h l = h ∙ sym l
+
+drop-determined : (κs : _) (a : _) (r q : _) (s t : _) → drop.Post κs a r s → drop.Post κs a q t → r ≡ q
+drop-determined κs a r q s t h l = h ∙ sym l
+
+enter-determined : (κs : _) (a : _) (r q : _) (s t : _) → enter.Post κs a r s → enter.Post κs a q t → r ≡ q
+enter-determined κs a r q s t h l = h ∙ sym l
+
+go-on-determined : (κs : _) (a : _) (r q : _) (s t : _) → go-on.Post κs a r s → go-on.Post κs a q t → r ≡ q
+go-on-determined κs a r q s t h l = h ∙ sym l
+
+handles-handle-determined : (κs : _) (a : _) (r q : _) (s t : _) → handles-handle.Post κs a r s → handles-handle.Post κs a q t → r ≡ q
+handles-handle-determined κs a r q s t h l = h ∙ sym l
+
+on-handle-determined : (κs : _) (a : _) (r q : _) (s t : _) → on-handle.Post κs a r s → on-handle.Post κs a q t → r ≡ q
+on-handle-determined κs a r q s t h l = h ∙ sym l
+
+release-determined : (κs : _) (a : _) (r q : _) (s t : _) → release.Post κs a r s → release.Post κs a q t → r ≡ q
+release-determined κs a r q s t h l = h ∙ sym l
+
+look-up-determined : (κs : _) (a : _) (r q : _) (s t : _) → look-up.Post κs a r s → look-up.Post κs a q t → r ≡ q
+look-up-determined κs a r q s t h l = h ∙ sym l
+
+was-dropped-determined : (κs : _) (a : _) (r q : _) (s t : _) → was-dropped.Post κs a r s → was-dropped.Post κs a q t → r ≡ q
+was-dropped-determined κs a r q s t h l = h ∙ sym l
+
+view-determined : (κs : _) (a : _) (r q : _) (s t : _) → view.Post κs a r s → view.Post κs a q t → now r ≡ now q
+view-determined κs a r q s t h l = h ∙ sym l
+
+pair-determined : (κs : _) (a : _) (r q : _) (s t : _) → pair.Post κs a r s → pair.Post κs a q t → now r ≡ now q
+pair-determined κs a r q s t h l = h ∙ sym l

@@ -1,0 +1,10 @@
+-- The laws of the reader's side.
+pub mod Tests
+pub mod Table
+pub mod Verdicts
+pub mod Cases
+pub mod Ends
+pub mod Touch
+pub mod Parity
+pub mod Determined
+pub mod Wrong

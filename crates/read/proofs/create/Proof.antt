@@ -1,0 +1,48 @@
+-- By the judgement.
+use mathlib.Core.Path.{sym, ap, _∙_}
+use borrow.Author.Needs.{needs}
+use Rattle.read.specs.Calls.{createReply}
+use Rattle.read.proofs.Cases.{new-refused, new-judged}
+use Rattle.read.proofs.create.Statement.{statement}
+use Rattle.read.proofs.create.Tie as tie
+
+judge-requires : tie.Need-judge-requires
+judge-requires c κs = search needs
+
+enum-known-v : tie.Need-enum-known-v
+enum-known-v c = search needs
+
+refusal-requires : tie.Need-refusal-requires
+refusal-requires c κs = search needs
+
+enum-told : tie.Need-enum-told
+enum-told c = search needs
+
+first-free-requires : tie.Need-first-free-requires
+first-free-requires c κs = search needs
+
+create-reply-requires : tie.Need-create-reply-requires
+create-reply-requires c κs = search needs
+
+returns : tie.Need-returns
+returns c =
+    let a = c .before .before .before .before .before .before .before .before .before .args in
+    c .refusal .ensures ∙ sym (new-refused (a .left .now) (a .right .now) (a .log .now) (a .st) _ (sym (c .before .before .before .before .judge .ensures) ∙ c .before .before .v .given .1))
+
+returns-2 : tie.Need-returns-2
+returns-2 c =
+    let a = c .before .before .before .before .before .before .before .before .before .before .args in
+    c .create-reply .ensures ∙ ap (λ i. createReply i (a .st)) (c .before .first-free .ensures) ∙ sym (new-judged (a .left .now) (a .right .now) (a .log .now) (a .st) (sym (c .before .before .before .before .before .judge .ensures) ∙ c .before .before .before .enum-told .given .1))
+
+pub create-spec : {M : Type 1} → statement M
+create-spec =
+    tie.close
+    (tie.spec
+    judge-requires
+    enum-known-v
+    refusal-requires
+    enum-told
+    first-free-requires
+    create-reply-requires
+    returns
+    returns-2)

@@ -1,0 +1,53 @@
+-- By the step that is due.
+use mathlib.Core.Path.{sym, ap, _∙_}
+use borrow.Author.Needs.{needs}
+use Rattle.read.specs.Handles.{wentOn}
+use Rattle.read.proofs.guards.went_on.Statement.{statement}
+use Rattle.read.proofs.guards.went_on.Tie as tie
+
+enum-told : tie.Need-enum-told
+enum-told c = search needs
+
+enum-told-2 : tie.Need-enum-told-2
+enum-told-2 c = search needs
+
+loaded-requires : tie.Need-loaded-requires
+loaded-requires c κs = search needs
+
+enum-told-3 : tie.Need-enum-told-3
+enum-told-3 c = search needs
+
+wrapping-add-u64-requires : tie.Need-wrapping-add-u64-requires
+wrapping-add-u64-requires c κs = search needs
+
+with-due-requires : tie.Need-with-due-requires
+with-due-requires c κs = search needs
+
+returns : tie.Need-returns
+returns c =
+    let a = c .before .before .args in
+    sym (ap (λ d. wentOn (a .c) d (a .s)) (c .enum-told .given .1))
+
+returns-2 : tie.Need-returns-2
+returns-2 c =
+    let a = c .before .before .before .args in
+    c .loaded .ensures ∙ sym (ap (λ d. wentOn (a .c) d (a .s)) (c .before .enum-told2 .given .1))
+
+returns-3 : tie.Need-returns-3
+returns-3 c =
+    let a = c .before .before .before .before .args in
+    rw (c .with-due .ensures, c .before .wrapping-add-u64 .ensures) (sym (ap (λ d. wentOn (a .c) d (a .s)) (c .before .before .enum-told3 .given .1)))
+
+pub went-on-spec : {M : Type 1} → statement M
+went-on-spec =
+    tie.close
+    (tie.spec
+    enum-told
+    enum-told-2
+    loaded-requires
+    enum-told-3
+    wrapping-add-u64-requires
+    with-due-requires
+    returns
+    returns-2
+    returns-3)

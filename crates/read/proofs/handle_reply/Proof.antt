@@ -1,0 +1,43 @@
+-- By whether the slot's number is in range.
+use mathlib.Core.Path.{sym, _∙_}
+use borrow.Author.Needs.{needs}
+use Rattle.read.specs.Machine.{slotCount}
+use Rattle.read.proofs.Cases.{reply-past, reply-in}
+use Rattle.read.proofs.handle_reply.Statement.{statement}
+use Rattle.read.proofs.handle_reply.Tie as tie
+
+refusal-requires : tie.Need-refusal-requires
+refusal-requires c κs = search needs
+
+returns : tie.Need-returns
+unfolding slotCount
+returns c =
+    let a = c .before .before .before .before .args in
+    c .refusal .ensures ∙ sym (reply-past (a .slot) (a .h) (a .left .now) (a .right .now) (a .st) (c .before .if1 .taken))
+
+slot-at-requires : tie.Need-slot-at-requires
+slot-at-requires c κs = search needs
+
+handle-requires : tie.Need-handle-requires
+handle-requires c κs = search needs
+
+with-slot-requires : tie.Need-with-slot-requires
+unfolding slotCount
+with-slot-requires c κs = search needs
+
+returns-2 : tie.Need-returns-2
+unfolding slotCount
+returns-2 c =
+    let a = c .before .before .before .before .before .before .before .before .args in
+    rw (c .with-slot .ensures, c .before .before .handle .ensures, c .before .before .before .slot-at .ensures) (sym (reply-in (a .slot) (a .h) (a .left .now) (a .right .now) (a .st) (c .before .before .before .before .before .if1 .left)))
+
+pub handle-reply-spec : {M : Type 1} → statement M
+handle-reply-spec =
+    tie.close
+    (tie.spec
+    refusal-requires
+    returns
+    slot-at-requires
+    handle-requires
+    with-slot-requires
+    returns-2)

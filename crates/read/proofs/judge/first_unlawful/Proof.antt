@@ -1,0 +1,105 @@
+-- Before a turn at i what is sought is what the rule still seeks from i on.
+use Prim.Native.Nat.{ℕ, _≤_, _-_}
+use mathlib.Core.Path.{_≡_, sym, ap, _∙_}
+use mathlib.Core.Bool.{Bool, not}
+use mathlib.Core.List.{List}
+use borrow.Author.Needs.{needs}
+use Rattle.table.specs.Seek.{seek}
+use Rattle.table.proofs.Seek.{seek-here, seek-next, seek-end}
+use Rattle.read.specs.Machine.{lawfulAt, firstUnlawful}
+use Rattle.read.proofs.judge.first_unlawful.Statement.{statement}
+use Rattle.read.proofs.judge.first_unlawful.Tie as tie
+
+abbrev test : List ℕ → ℕ → Bool
+test g i = not (lawfulAt g i)
+
+abbrev Inv-loop : tie.InvT-loop
+Inv-loop n log i₀ i = (i ≤ n) × (firstUnlawful n log ≡ seek (test log) i (n - i))
+
+abbrev μ-loop : tie.MeasureT-loop
+μ-loop n log i₀ i = n - i
+
+loop-holds : tie.Need-loop-holds Inv-loop μ-loop
+loop-holds c = (search needs, ap (seek (test (c .before .args .log .now)) 0) (search needs))
+
+mul-lawful : tie.Need-mul-lawful Inv-loop μ-loop
+mul-lawful c = search needs
+
+mul-lawful-2 : tie.Need-mul-lawful-2 Inv-loop μ-loop
+mul-lawful-2 c = search needs
+
+shared-slice-read-lawful : tie.Need-shared-slice-read-lawful Inv-loop μ-loop
+shared-slice-read-lawful c = search needs
+
+mul-lawful-3 : tie.Need-mul-lawful-3 Inv-loop μ-loop
+mul-lawful-3 c = search needs
+
+add-lawful : tie.Need-add-lawful Inv-loop μ-loop
+add-lawful c = search needs
+
+mul-lawful-4 : tie.Need-mul-lawful-4 Inv-loop μ-loop
+mul-lawful-4 c = search needs
+
+shared-slice-read-lawful-2 : tie.Need-shared-slice-read-lawful-2 Inv-loop μ-loop
+shared-slice-read-lawful-2 c = search needs
+
+mul-lawful-5 : tie.Need-mul-lawful-5 Inv-loop μ-loop
+mul-lawful-5 c = search needs
+
+add-lawful-2 : tie.Need-add-lawful-2 Inv-loop μ-loop
+add-lawful-2 c = search needs
+
+mul-lawful-6 : tie.Need-mul-lawful-6 Inv-loop μ-loop
+mul-lawful-6 c = search needs
+
+shared-slice-read-lawful-3 : tie.Need-shared-slice-read-lawful-3 Inv-loop μ-loop
+shared-slice-read-lawful-3 c = search needs
+
+lawful-requires : tie.Need-lawful-requires Inv-loop μ-loop
+lawful-requires c κs = search needs
+
+returns : tie.Need-returns Inv-loop μ-loop
+returns c =
+    let g = c .before .before .before .before .before .before .before .before .args .log .now in
+    sym (c .before .before .before .before .before .before .loop .inv .1 ∙ seek-here (test g) (c .before .before .before .before .before .before .loop .i) (c .before .before .before .before .before .before .before .before .args .n) (search needs) (ap not (sym (c .before .lawful .ensures)) ∙ c .if1 .taken))
+
+add-i : tie.Need-add-i Inv-loop μ-loop
+add-i c = search needs
+
+loop-less : tie.Need-loop-less Inv-loop μ-loop
+loop-less c = search needs
+
+loop-again : tie.Need-loop-again Inv-loop μ-loop
+loop-again c =
+    let g = c .before .before .before .before .before .before .before .before .args .log .now in
+    (search needs, c .before .before .before .before .before .before .loop .inv .1 ∙ seek-next (test g) (c .before .before .before .before .before .before .loop .i) (c .before .before .before .before .before .before .before .before .args .n) (search needs) (ap not (sym (c .before .lawful .ensures)) ∙ c .if1 .left))
+
+returns-2 : tie.Need-returns-2 Inv-loop μ-loop
+returns-2 c =
+    let g = c .before .before .before .args .log .now in
+    sym (c .before .loop .inv .1 ∙ seek-end (test g) (c .before .loop .i) (c .before .before .before .args .n) (search needs))
+
+pub first-unlawful-spec : {M : Type 1} → statement M
+first-unlawful-spec =
+    tie.close
+    (tie.spec
+    Inv-loop
+    μ-loop
+    loop-holds
+    mul-lawful
+    mul-lawful-2
+    shared-slice-read-lawful
+    mul-lawful-3
+    add-lawful
+    mul-lawful-4
+    shared-slice-read-lawful-2
+    mul-lawful-5
+    add-lawful-2
+    mul-lawful-6
+    shared-slice-read-lawful-3
+    lawful-requires
+    returns
+    add-i
+    loop-less
+    loop-again
+    returns-2)

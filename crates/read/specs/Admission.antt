@@ -1,0 +1,78 @@
+-- Which call each phase of the writer admits: 0 is admitted, 6 not now, 7 locked.
+use Prim.Native.Nat.{ℕ, _+_, _-_}
+use mathlib.Core.Bool.{Bool, true, false, not, _||_}
+use lib.Dec.{ltb}
+use Rattle.read.specs.declared.Phase.{Phase}
+use Rattle.read.specs.declared.Phase.the-variants.{Idle, Begin, Poll, Copy, Drain, Keep, Swap, Snap, Null, Lock, LastSnap, LastPoll, Finish, Gone}
+use Rattle.read.specs.declared.Handle.{Handle}
+use Rattle.read.specs.declared.Handle.the-variants.{Drop, Enter, GoOn, Release, LookUp, WasDropped}
+use Rattle.read.specs.Machine.{isGone, underway, locks}
+
+-- ---- rows and columns
+
+abbrev pub row : Phase → ℕ
+row Idle = 0
+row Begin = 1
+row (Poll k) = 2
+row Copy = 3
+row Drain = 4
+row (Keep k) = 5
+row Swap = 6
+row (Snap k) = 7
+row Null = 8
+row Lock = 9
+row (LastSnap k) = 10
+row (LastPoll k) = 11
+row Finish = 12
+row Gone = 13
+
+-- the calls by their numbers in a schedule, 1 to 14, stand in columns 0 to 13; those on slot 0, 2 to 7, again in columns 14 to 19
+abbrev pub callOf : Handle → ℕ
+callOf Drop = 2
+callOf Enter = 3
+callOf GoOn = 4
+callOf (Release g) = 5
+callOf (LookUp g key) = 6
+callOf WasDropped = 7
+
+-- by whether the slot is slot 0
+abbrev pub column : Handle → Bool → ℕ
+column h true = callOf h + 12
+column h false = callOf h - 1
+
+abbrev pub createColumn : ℕ
+createColumn = 0
+
+abbrev pub appendColumn : ℕ
+appendColumn = 7
+
+-- ---- the rule
+
+abbrev pub notNow : Bool → ℕ
+notNow true = 6
+notNow false = 0
+
+abbrev pub locked : Bool → ℕ
+locked true = 7
+locked false = 0
+
+-- create and drop wait for the lock; the handle calls on other slots are always admitted; the writer's calls begin where none is
+-- under way, and step and run go on where one is; slot 0 is the writer's own: dropped after gone alone, and left alone under way
+unfoldable pub entry : Phase → ℕ → ℕ
+entry p c =
+    elim (ltb c 2) [
+      | true ↦ locked (locks p)
+      | false ↦
+          elim (ltb c 7) [
+            | true ↦ 0
+            | false ↦
+                elim (ltb c 12) [
+                  | true ↦ notNow (underway p || isGone p)
+                  | false ↦
+                      elim (ltb c 14) [
+                        | true ↦ notNow (not (underway p))
+                        | false ↦ elim (ltb c 15) [ true ↦ notNow (not (isGone p)) | false ↦ notNow (underway p) ]
+                      ]
+                ]
+          ]
+    ]

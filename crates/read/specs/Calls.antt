@@ -1,0 +1,116 @@
+-- The reader's calls on the whole machine: judged on all of it, and changing one slot.
+use Prim.Native.Nat.{ℕ}
+use mathlib.Core.Bool.{Bool, true, false, not}
+use mathlib.Core.List.{List, []}
+use lib.ListN.{getD, set, length, replicate}
+use lib.Dec.{eqb, ltb, leb}
+use Rattle.table.specs.Seek.{seek}
+use Rattle.table.specs.Copy.{zeros, usedRule, lookRule}
+use Rattle.table.specs.declared.Answer.{Answer}
+use Rattle.table.specs.declared.Answer.the-variants as answer
+use Rattle.read.specs.declared.Slot.{Slot}
+use Rattle.read.specs.declared.Control.{Control}
+use Rattle.read.specs.declared.State.{State}
+use Rattle.read.specs.declared.Handle.{Handle}
+use Rattle.read.specs.declared.Handle.the-variants.{LookUp}
+use Rattle.read.specs.declared.Verdict.{Verdict}
+use Rattle.read.specs.declared.Verdict.the-variants.{Admitted, Refused}
+use Rattle.read.specs.declared.Signs.{Signs}
+use Rattle.read.specs.declared.Made.{Made}
+use Rattle.read.specs.declared.Reply.{Reply}
+use Rattle.read.specs.Machine.{slotCount, noSlot, newSlot, sized, judged, fresh}
+use Rattle.read.specs.Admission.{createColumn, entry}
+use Rattle.read.specs.Handles.{smallest, handleSigns, handleOn, guardedCopy}
+
+abbrev pub slotAt : State → ℕ → Slot
+slotAt st i = getD (st .slots) i noSlot
+
+abbrev pub withSlot : ℕ → Slot → State → State
+withSlot i s st = record { control = st .control; slots = set (st .slots) i s; snapshots = st .snapshots }
+
+abbrev pub refusal : Answer → State → Reply
+refusal a st = record { answer = a; value = 0; state = st }
+
+-- what a call hands back, with the three lent slices
+pub record Lent (A : Type 0) : Type 0 where
+  pub made : A
+  pub left : List ℕ
+  pub right : List ℕ
+  pub log : List ℕ
+
+abbrev pub lent : {A : Type 0} → A → List ℕ → List ℕ → List ℕ → Lent A
+lent a l r g = record { made = a; left = l; right = r; log = g }
+
+-- ---- a call on a handle
+
+abbrev pub handleReply : ℕ → Handle → List ℕ → List ℕ → State → Reply
+handleReply i h l r st =
+    let m = handleOn (st .control) (eqb i 0) (slotAt st i) h l r in
+    elim (ltb i slotCount) [
+      | true ↦ record { answer = m .answer; value = m .value; state = withSlot i (m .slot) st }
+      | false ↦ refusal answer.NoSlot st
+    ]
+
+unfoldable pub handleRule : ℕ → Handle → List ℕ → List ℕ → List ℕ → State → Reply
+handleRule i h l r g st =
+    elim (judged (st .control) l r g) [ Admitted ↦ handleReply i h l r st | Refused a ↦ refusal a st ]
+
+-- ---- create
+
+-- the lowest free slot, or the number of slots
+abbrev pub firstFree : List Slot → ℕ
+firstFree ss = seek (λ i. not (getD ss i noSlot .used)) 0 slotCount
+
+abbrev pub createSigns : Control → ℕ → Signs
+createSigns c i =
+    record {
+      gone = false;
+      «no_slot» = false;
+      operation = false;
+      «not_now» = false;
+      locked = eqb (entry (c .phase) createColumn) 7;
+      «guards_open» = false;
+      «no_guard» = false;
+      «four_guards» = false;
+      «log_full» = false;
+      «slots_full» = leb slotCount i;
+    }
+
+abbrev pub createReply : ℕ → State → Reply
+createReply i st =
+    elim (smallest (createSigns (st .control) i))
+    [ Admitted ↦ record { answer = answer.Done; value = i; state = withSlot i newSlot st } | Refused a ↦ refusal a st ]
+
+unfoldable pub createRule : List ℕ → List ℕ → List ℕ → State → Reply
+createRule l r g st =
+    elim (judged (st .control) l r g) [ Admitted ↦ createReply (firstFree (st .slots)) st | Refused a ↦ refusal a st ]
+
+-- ---- a guard's view
+
+-- the copy that a guard stands on, or no words where the call is refused
+abbrev pub throughGuard : ℕ → ℕ → List ℕ → List ℕ → State → List ℕ
+throughGuard i j l r st =
+    let v = smallest (handleSigns (st .control) (eqb i 0) (slotAt st i) (LookUp j 0)) in
+    elim (ltb i slotCount)
+    [ true ↦ elim v [ Admitted ↦ guardedCopy (slotAt st i .guards) j l r | Refused a ↦ [] ] | false ↦ [] ]
+
+unfoldable pub throughRule : ℕ → ℕ → List ℕ → List ℕ → List ℕ → State → List ℕ
+throughRule i j l r g st =
+    elim (judged (st .control) l r g) [ Admitted ↦ throughGuard i j l r st | Refused a ↦ [] ]
+
+-- its used part
+abbrev pub viewRule : ℕ → ℕ → List ℕ → List ℕ → List ℕ → State → List ℕ
+viewRule i j l r g st = usedRule (throughRule i j l r g st)
+
+-- the two words of a key's pair
+abbrev pub pairRule : ℕ → ℕ → ℕ → List ℕ → List ℕ → List ℕ → State → List ℕ
+pairRule i j key l r g st = lookRule key (throughRule i j l r g st)
+
+-- ---- start
+
+unfoldable pub startRule : List ℕ → List ℕ → List ℕ → Lent Reply
+startRule l r g =
+    elim (sized l r g) [
+      | true ↦ lent (record { answer = answer.Done; value = 0; state = fresh }) (zeros l) (zeros r) (zeros g)
+      | false ↦ lent (refusal answer.Length fresh) l r g
+    ]

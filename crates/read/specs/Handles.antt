@@ -1,0 +1,168 @@
+-- What a call on a handle does: to its own slot alone, judged by the control part and that slot.
+use Prim.Native.Nat.{ℕ, _+_, _%_, _^_}
+use mathlib.Core.Bool.{Bool, true, false, not, _&&_, _||_}
+use mathlib.Core.List.{List, []}
+use lib.ListN.{getD}
+use lib.Dec.{eqb}
+use Rattle.table.specs.Copy.{lookRule, usedRule}
+use Rattle.table.specs.declared.Answer.{Answer}
+use Rattle.table.specs.declared.Answer.the-variants as answer
+use Rattle.read.specs.declared.Due.{Due}
+use Rattle.read.specs.declared.Due.the-variants.{Nothing, Load, Restore}
+use Rattle.read.specs.declared.Guard.{Guard}
+use Rattle.read.specs.declared.Slot.{Slot}
+use Rattle.read.specs.declared.Control.{Control}
+use Rattle.read.specs.declared.Handle.{Handle}
+use Rattle.read.specs.declared.Handle.the-variants.{Drop, Enter, GoOn, Release, LookUp, WasDropped}
+use Rattle.read.specs.declared.Verdict.{Verdict}
+use Rattle.read.specs.declared.Verdict.the-variants.{Admitted, Refused}
+use Rattle.read.specs.declared.Signs.{Signs}
+use Rattle.read.specs.declared.Made.{Made}
+use Rattle.read.specs.Machine.{shut, isOpen, standsRight, putGuard, firstGuard, anyOpen, allOpen, isDue, isLoad}
+use Rattle.read.specs.Admission.{column, entry}
+
+-- ---- which refusal is given
+
+abbrev pub given : Bool → Answer → Verdict → Verdict
+given sign a otherwise = elim sign [ true ↦ Refused a | false ↦ otherwise ]
+
+-- the smallest number whose sign is set
+unfoldable pub smallest : Signs → Verdict
+smallest s =
+    given (s .gone) answer.Gone
+    (given (s .«no_slot») answer.NoSlot
+    (given (s .operation) answer.Operation
+    (given (s .«not_now») answer.NotNow
+    (given (s .locked) answer.Locked
+    (given (s .«guards_open») answer.GuardsOpen
+    (given (s .«no_guard») answer.NoGuard
+    (given (s .«four_guards») answer.FourGuards
+    (given (s .«log_full») answer.LogFull (given (s .«slots_full») answer.SlotsFull Admitted)))))))))
+
+-- enter or drop with a step due; go on with none
+abbrev pub mistimed : Handle → Due → Bool
+mistimed Drop d = isDue d
+mistimed Enter d = isDue d
+mistimed GoOn d = not (isDue d)
+mistimed (Release g) d = false
+mistimed (LookUp g key) d = false
+mistimed WasDropped d = false
+
+-- drop with guards
+abbrev pub leavesGuards : Handle → List Guard → Bool
+leavesGuards Drop gs = anyOpen gs
+leavesGuards Enter gs = false
+leavesGuards GoOn gs = false
+leavesGuards (Release g) gs = false
+leavesGuards (LookUp g key) gs = false
+leavesGuards WasDropped gs = false
+
+-- a guard that is not there: its number over 3, or closed
+abbrev pub lacksGuard : Handle → List Guard → Bool
+lacksGuard Drop gs = false
+lacksGuard Enter gs = false
+lacksGuard GoOn gs = false
+lacksGuard (Release g) gs = not (isOpen gs g)
+lacksGuard (LookUp g key) gs = not (isOpen gs g)
+lacksGuard WasDropped gs = false
+
+-- enter with four open, or a load that is due and would open a fifth
+abbrev pub lacksRoom : Handle → Bool → Slot → Bool
+lacksRoom Drop null s = false
+lacksRoom Enter null s = allOpen (s .guards)
+lacksRoom GoOn null s = isLoad (s .due) && (not null && allOpen (s .guards))
+lacksRoom (Release g) null s = false
+lacksRoom (LookUp g key) null s = false
+lacksRoom WasDropped null s = false
+
+-- what speaks against a call; own: on slot 0
+abbrev pub handleSigns : Control → Bool → Slot → Handle → Signs
+handleSigns c own s h =
+    let e = entry (c .phase) (column h own) in
+    record {
+      gone = false;
+      «no_slot» = not (s .used);
+      operation = false;
+      «not_now» = eqb e 6 || mistimed h (s .due);
+      locked = eqb e 7;
+      «guards_open» = leavesGuards h (s .guards);
+      «no_guard» = lacksGuard h (s .guards);
+      «four_guards» = lacksRoom h (c .null) s;
+      «log_full» = false;
+      «slots_full» = false;
+    }
+
+-- ---- what is done
+
+-- the epoch goes round from 2^64-1 to 0
+abbrev pub bumped : ℕ → ℕ
+bumped e = (e + 1) % 2 ^ 64
+
+abbrev pub withDue : ℕ → Due → Slot → Slot
+withDue e d s = record { used = s .used; epoch = e; guards = s .guards; due = d }
+
+-- the slot is free; all else stays
+abbrev pub freed : Slot → Slot
+freed s = record { used = false; epoch = s .epoch; guards = s .guards; due = s .due }
+
+-- the lowest free guard opens on a side
+abbrev pub guarded : Bool → Slot → Slot
+guarded right s =
+    record {
+      used = s .used;
+      epoch = s .epoch;
+      guards = putGuard (firstGuard false (s .guards)) (record { opened = true; right = right }) (s .guards);
+      due = Nothing;
+    }
+
+-- the load: d is what is due where the pointer is null
+abbrev pub loaded : Control → Due → Slot → Made
+loaded c d s =
+    elim (c .null) [
+      | true ↦ record { answer = answer.None; value = 0; slot = withDue (s .epoch) d s }
+      | false ↦ record { answer = answer.Done; value = firstGuard false (s .guards); slot = guarded (c .right) s }
+    ]
+
+abbrev pub entered : Control → Slot → Made
+entered c s =
+    elim (anyOpen (s .guards)) [
+      | true ↦ loaded c (s .due) s
+      | false ↦ record { answer = answer.Done; value = 0; slot = withDue (bumped (s .epoch)) Load s }
+    ]
+
+abbrev pub wentOn : Control → Due → Slot → Made
+wentOn c Nothing s = record { answer = answer.NotNow; value = 0; slot = s }
+wentOn c Load s = loaded c Restore s
+wentOn c Restore s = record { answer = answer.None; value = 0; slot = withDue (bumped (s .epoch)) Nothing s }
+
+-- guard j closes, and the last one adds one to the epoch
+abbrev pub released : ℕ → Slot → Slot
+released j s =
+    let gs = putGuard j shut (s .guards) in
+    record { used = s .used; epoch = elim (anyOpen gs) [ true ↦ s .epoch | false ↦ bumped (s .epoch) ]; guards = gs; due = s .due }
+
+-- the copy that guard j stands on
+abbrev pub copyOf : Bool → List ℕ → List ℕ → List ℕ
+copyOf right l r = elim right [ true ↦ r | false ↦ l ]
+
+abbrev pub guardedCopy : List Guard → ℕ → List ℕ → List ℕ → List ℕ
+guardedCopy gs j l r = copyOf (standsRight gs j) l r
+
+abbrev pub bit : Bool → ℕ
+bit true = 1
+bit false = 0
+
+unfoldable pub handled : Control → Slot → Handle → List ℕ → List ℕ → Made
+handled c s Drop l r = record { answer = answer.Done; value = 0; slot = freed s }
+handled c s Enter l r = entered c s
+handled c s GoOn l r = wentOn c (s .due) s
+handled c s (Release j) l r = record { answer = answer.Done; value = 0; slot = released j s }
+handled c s (LookUp j key) l r =
+    record { answer = answer.Done; value = getD (lookRule key (guardedCopy (s .guards) j l r)) 1 0; slot = s }
+handled c s WasDropped l r = record { answer = answer.Done; value = bit (c .null); slot = s }
+
+-- a call on a handle: refused with nothing changed, or made
+unfoldable pub handleOn : Control → Bool → Slot → Handle → List ℕ → List ℕ → Made
+handleOn c own s h l r =
+    elim (smallest (handleSigns c own s h))
+    [ Admitted ↦ handled c s h l r | Refused a ↦ record { answer = a; value = 0; slot = s } ]

@@ -1,0 +1,4 @@
+pub mod Machine
+pub mod Admission
+pub mod Handles
+pub mod Calls

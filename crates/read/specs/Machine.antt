@@ -1,0 +1,222 @@
+-- The machine's parts: sizes, the fresh state, the writer's phases, and what makes a state broken.
+use Prim.Native.Nat.{ℕ, _+_, _-_, _*_}
+use mathlib.Core.Bool.{Bool, true, false, not, _&&_}
+use mathlib.Core.List.{List, _∷_}
+use lib.ListN.{length, getD, set, replicate}
+use lib.Dec.{eqb, ltb, leb}
+use Rattle.table.specs.Seek.{seek}
+use Rattle.table.specs.Copy.{pairs, words, entries, lawful}
+use Rattle.table.specs.declared.Answer.{Answer}
+use Rattle.table.specs.declared.Answer.the-variants.{Length, Broken}
+use Rattle.read.specs.declared.Due.{Due}
+use Rattle.read.specs.declared.Due.the-variants.{Nothing, Load, Restore}
+use Rattle.read.specs.declared.Guard.{Guard}
+use Rattle.read.specs.declared.Slot.{Slot}
+use Rattle.read.specs.declared.Phase.{Phase}
+use Rattle.read.specs.declared.Phase.the-variants.{Idle, Begin, Poll, Copy, Drain, Keep, Swap, Snap, Null, Lock, LastSnap, LastPoll, Finish, Gone}
+use Rattle.read.specs.declared.Job.{Job}
+use Rattle.read.specs.declared.Job.the-variants.{Publish}
+use Rattle.read.specs.declared.Control.{Control}
+use Rattle.read.specs.declared.State.{State}
+use Rattle.read.specs.declared.Verdict.{Verdict}
+use Rattle.read.specs.declared.Verdict.the-variants.{Admitted, Refused}
+
+-- ---- sizes
+
+unfoldable pub slotCount : ℕ
+slotCount = 16
+
+abbrev pub guardCount : ℕ
+guardCount = 4
+
+-- how many operations the log has room for, each of three words
+abbrev pub logRoom : ℕ
+logRoom = 256
+
+abbrev pub logWords : ℕ
+logWords = 3 * logRoom
+
+-- ---- guards and slots
+
+abbrev pub shut : Guard
+shut = record { opened = false; right = false }
+
+abbrev pub noGuards : List Guard
+noGuards = replicate guardCount shut
+
+-- guard j is there: its number is not over 3, and it is open
+abbrev pub isOpen : List Guard → ℕ → Bool
+isOpen gs j = ltb j guardCount && getD gs j shut .opened
+
+abbrev pub standsRight : List Guard → ℕ → Bool
+standsRight gs j = ltb j guardCount && getD gs j shut .right
+
+abbrev pub putGuard : ℕ → Guard → List Guard → List Guard
+putGuard j x gs = elim (ltb j guardCount) [ true ↦ set gs j x | false ↦ gs ]
+
+abbrev pub same : Bool → Bool → Bool
+same true b = b
+same false b = not b
+
+-- the first guard that is open, or that is shut, by what is wanted; or their number
+abbrev pub firstGuard : Bool → List Guard → ℕ
+firstGuard want gs = seek (λ j. same want (isOpen gs j)) 0 guardCount
+
+abbrev pub anyOpen : List Guard → Bool
+anyOpen gs = ltb (firstGuard true gs) guardCount
+
+abbrev pub allOpen : List Guard → Bool
+allOpen gs = leb guardCount (firstGuard false gs)
+
+abbrev pub isDue : Due → Bool
+isDue Nothing = false
+isDue Load = true
+isDue Restore = true
+
+abbrev pub isLoad : Due → Bool
+isLoad Nothing = false
+isLoad Load = true
+isLoad Restore = false
+
+-- a free slot of a fresh machine
+abbrev pub noSlot : Slot
+noSlot = record { used = false; epoch = 0; guards = noGuards; due = Nothing }
+
+-- a new handle
+abbrev pub newSlot : Slot
+newSlot = record { used = true; epoch = 0; guards = noGuards; due = Nothing }
+
+-- ---- the writer's phases
+
+abbrev pub isGone : Phase → Bool
+isGone Idle = false
+isGone Begin = false
+isGone (Poll k) = false
+isGone Copy = false
+isGone Drain = false
+isGone (Keep k) = false
+isGone Swap = false
+isGone (Snap k) = false
+isGone Null = false
+isGone Lock = false
+isGone (LastSnap k) = false
+isGone (LastPoll k) = false
+isGone Finish = false
+isGone Gone = true
+
+-- a call of the writer is under way
+abbrev pub underway : Phase → Bool
+underway Idle = false
+underway Begin = true
+underway (Poll k) = true
+underway Copy = true
+underway Drain = true
+underway (Keep k) = true
+underway Swap = true
+underway (Snap k) = true
+underway Null = true
+underway Lock = true
+underway (LastSnap k) = true
+underway (LastPoll k) = true
+underway Finish = true
+underway Gone = false
+
+-- the lock is held in a publish, and from take's last snapshots to its finish
+abbrev pub locks : Phase → Bool
+locks Idle = false
+locks Begin = false
+locks (Poll k) = true
+locks Copy = true
+locks Drain = true
+locks (Keep k) = true
+locks Swap = true
+locks (Snap k) = true
+locks Null = false
+locks Lock = false
+locks (LastSnap k) = true
+locks (LastPoll k) = true
+locks Finish = true
+locks Gone = false
+
+-- the pointer is null from take's lock step on
+abbrev pub nulls : Phase → Bool
+nulls Idle = false
+nulls Begin = false
+nulls (Poll k) = false
+nulls Copy = false
+nulls Drain = false
+nulls (Keep k) = false
+nulls Swap = false
+nulls (Snap k) = false
+nulls Null = false
+nulls Lock = true
+nulls (LastSnap k) = true
+nulls (LastPoll k) = true
+nulls Finish = true
+nulls Gone = true
+
+-- a phase's position is in range: a slot's number; an operation of the log; an operation before the swap index
+abbrev pub inRange : Control → Phase → Bool
+inRange c Idle = true
+inRange c Begin = true
+inRange c (Poll k) = ltb k slotCount
+inRange c Copy = true
+inRange c Drain = ltb 0 (c .swapped)
+inRange c (Keep k) = ltb k (c .length)
+inRange c Swap = true
+inRange c (Snap k) = ltb k slotCount
+inRange c Null = true
+inRange c Lock = true
+inRange c (LastSnap k) = ltb k slotCount
+inRange c (LastPoll k) = ltb k slotCount
+inRange c Finish = true
+inRange c Gone = true
+
+-- ---- the log
+
+-- operation i of the log is as its kind asks
+abbrev pub lawfulAt : List ℕ → ℕ → Bool
+lawfulAt g i = lawful (getD g (3 * i) 0) (getD g (3 * i + 1) 0) (getD g (3 * i + 2) 0)
+
+-- the first of n operations that is not, or n
+abbrev pub firstUnlawful : ℕ → List ℕ → ℕ
+firstUnlawful n g = seek (λ i. not (lawfulAt g i)) 0 n
+
+-- ---- what every call is judged on
+
+abbrev pub sized : List ℕ → List ℕ → List ℕ → Bool
+sized l r g = eqb (length l) words && (eqb (length r) words && eqb (length g) logWords)
+
+-- the control part by itself: counts, position, lock and pointer
+abbrev pub wholeControl : Control → Bool
+wholeControl c =
+    leb (c .length) logRoom
+    && (leb (c .swapped) (c .length)
+    && (inRange c (c .phase) && (same (c .lock) (locks (c .phase)) && same (c .null) (nulls (c .phase)))))
+
+-- lengths, entry counts and the control part: all but the walk over the log
+unfoldable pub glanced : Control → List ℕ → List ℕ → List ℕ → Verdict
+glanced c l r g =
+    elim (sized l r g) [
+      | true ↦
+          elim (leb (entries l) pairs && (leb (entries r) pairs && wholeControl c)) [ true ↦ Admitted | false ↦ Refused Broken ]
+      | false ↦ Refused Length
+    ]
+
+-- what every call is judged on: the same, and each logged operation
+unfoldable pub judged : Control → List ℕ → List ℕ → List ℕ → Verdict
+judged c l r g =
+    elim (glanced c l r g) [
+      | Admitted ↦ elim (leb (c .length) (firstUnlawful (c .length) g)) [ true ↦ Admitted | false ↦ Refused Broken ]
+      | Refused a ↦ Refused a
+    ]
+
+-- ---- the fresh machine
+
+abbrev pub freshControl : Control
+freshControl =
+    record { right = false; null = false; lock = false; first = true; second = true; phase = Idle; job = Publish; length = 0; swapped = 0 }
+
+-- slot 0 is the writer's own handle
+abbrev pub fresh : State
+fresh = record { control = freshControl; slots = newSlot ∷ replicate (slotCount - 1) noSlot; snapshots = replicate slotCount 0 }

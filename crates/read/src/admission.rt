@@ -1,0 +1,81 @@
+// Which call each phase of the writer admits.
+use crate::Handle;
+use crate::Phase;
+ghost use mathlib.Core.Path.{_≡_};
+ghost use Rattle.read.specs.Admission.{row as rowRule, column as columnRule, entry as entryRule};
+
+// A row for each phase, a column for each call 1 to 14, and for calls 2 to 7 on slot 0 another: 0 is admitted, 6 not now, 7 locked.
+// After gone the writer's calls have no entry of their own: they are answered 3, which is smaller than what stands there.
+const ADMITS: [[u8; 20]; 14] = [
+    [0, 0, 0, 0, 0, 0, 0, 0, 0, 0, 0, 0, 6, 6, 6, 0, 0, 0, 0, 0],
+    [0, 0, 0, 0, 0, 0, 0, 6, 6, 6, 6, 6, 0, 0, 6, 6, 6, 6, 6, 6],
+    [7, 7, 0, 0, 0, 0, 0, 6, 6, 6, 6, 6, 0, 0, 6, 6, 6, 6, 6, 6],
+    [7, 7, 0, 0, 0, 0, 0, 6, 6, 6, 6, 6, 0, 0, 6, 6, 6, 6, 6, 6],
+    [7, 7, 0, 0, 0, 0, 0, 6, 6, 6, 6, 6, 0, 0, 6, 6, 6, 6, 6, 6],
+    [7, 7, 0, 0, 0, 0, 0, 6, 6, 6, 6, 6, 0, 0, 6, 6, 6, 6, 6, 6],
+    [7, 7, 0, 0, 0, 0, 0, 6, 6, 6, 6, 6, 0, 0, 6, 6, 6, 6, 6, 6],
+    [7, 7, 0, 0, 0, 0, 0, 6, 6, 6, 6, 6, 0, 0, 6, 6, 6, 6, 6, 6],
+    [0, 0, 0, 0, 0, 0, 0, 6, 6, 6, 6, 6, 0, 0, 6, 6, 6, 6, 6, 6],
+    [0, 0, 0, 0, 0, 0, 0, 6, 6, 6, 6, 6, 0, 0, 6, 6, 6, 6, 6, 6],
+    [7, 7, 0, 0, 0, 0, 0, 6, 6, 6, 6, 6, 0, 0, 6, 6, 6, 6, 6, 6],
+    [7, 7, 0, 0, 0, 0, 0, 6, 6, 6, 6, 6, 0, 0, 6, 6, 6, 6, 6, 6],
+    [7, 7, 0, 0, 0, 0, 0, 6, 6, 6, 6, 6, 0, 0, 6, 6, 6, 6, 6, 6],
+    [0, 0, 0, 0, 0, 0, 0, 6, 6, 6, 6, 6, 6, 6, 0, 0, 0, 0, 0, 0],
+];
+
+fn row(p: Phase) -> usize
+    ensures { λ r. ⌜ r ≡ rowRule p ⌝ }
+{
+    match p {
+        Phase::Idle => 0,
+        Phase::Begin => 1,
+        Phase::Poll(_) => 2,
+        Phase::Copy => 3,
+        Phase::Drain => 4,
+        Phase::Keep(_) => 5,
+        Phase::Swap => 6,
+        Phase::Snap(_) => 7,
+        Phase::Null => 8,
+        Phase::Lock => 9,
+        Phase::LastSnap(_) => 10,
+        Phase::LastPoll(_) => 11,
+        Phase::Finish => 12,
+        Phase::Gone => 13,
+    }
+}
+
+// The entry; a column past the last one is as the last one.
+pub fn entry(p: Phase, column: usize) -> u8
+    ensures { λ r. ⌜ r ≡ entryRule p column ⌝ }
+{
+    let i = row(p);
+    if column < 20 {
+        return ADMITS[i][column];
+    }
+    ADMITS[i][19]
+}
+
+// The column of a call on a handle; `own`: on slot 0.
+pub fn column(h: Handle, own: bool) -> usize
+    ensures { λ r. ⌜ r ≡ columnRule h own ⌝ }
+{
+    if own {
+        match h {
+            Handle::Drop => 14,
+            Handle::Enter => 15,
+            Handle::GoOn => 16,
+            Handle::Release(_) => 17,
+            Handle::LookUp(_, _) => 18,
+            Handle::WasDropped => 19,
+        }
+    } else {
+        match h {
+            Handle::Drop => 1,
+            Handle::Enter => 2,
+            Handle::GoOn => 3,
+            Handle::Release(_) => 4,
+            Handle::LookUp(_, _) => 5,
+            Handle::WasDropped => 6,
+        }
+    }
+}

@@ -1,0 +1,245 @@
+// A slot and its guards, by value: what read/guard.rs does to a handle's own record.
+use crate::Control;
+use crate::Due;
+use crate::Guard;
+use crate::Made;
+use crate::Slot;
+use crate::judge;
+use table::Answer;
+ghost use mathlib.Core.Path.{_≡_};
+ghost use Rattle.read.specs.Machine.{isOpen, putGuard, firstGuard, anyOpen, allOpen, isDue, isLoad, noSlot, newSlot, noGuards};
+ghost use Rattle.read.specs.Handles.{withDue, freed as freedRule, guarded as guardedRule, loaded as loadedRule, entered as enteredRule, wentOn, released as releasedRule};
+
+// The first guard that is open, or that is shut, by what is wanted; 4 where there is none.
+pub fn first_guard(want: bool, g: [Guard; 4]) -> usize
+    ensures { λ r. ⌜ r ≡ firstGuard want g ⌝ }
+{
+    let mut j = 0;
+    while j < 4 {
+        let x = g[j];
+        if judge::same(want, x.opened) {
+            return j;
+        }
+        j += 1;
+    }
+    j
+}
+
+pub fn is_open(g: [Guard; 4], j: usize) -> bool
+    ensures { λ r. ⌜ r ≡ isOpen g j ⌝ }
+{
+    if j < 4 {
+        let x = g[j];
+        return x.opened;
+    }
+    false
+}
+
+pub fn any_open(g: [Guard; 4]) -> bool
+    ensures { λ r. ⌜ r ≡ anyOpen g ⌝ }
+{
+    first_guard(true, g) < 4
+}
+
+pub fn all_open(g: [Guard; 4]) -> bool
+    ensures { λ r. ⌜ r ≡ allOpen g ⌝ }
+{
+    4 <= first_guard(false, g)
+}
+
+pub fn is_due(d: Due) -> bool
+    ensures { λ r. ⌜ r ≡ isDue d ⌝ }
+{
+    match d {
+        Due::Nothing => false,
+        Due::Load => true,
+        Due::Restore => true,
+    }
+}
+
+pub fn is_load(d: Due) -> bool
+    ensures { λ r. ⌜ r ≡ isLoad d ⌝ }
+{
+    match d {
+        Due::Nothing => false,
+        Due::Load => true,
+        Due::Restore => false,
+    }
+}
+
+fn no_guards() -> [Guard; 4]
+    ensures { λ r. ⌜ r ≡ noGuards ⌝ }
+{
+    let shut = Guard {
+        opened: false,
+        right: false,
+    };
+    [shut; 4]
+}
+
+pub fn no_slot() -> Slot
+    ensures { λ r. ⌜ r ≡ noSlot ⌝ }
+{
+    let none = no_guards();
+    Slot {
+        used: false,
+        epoch: 0,
+        guards: none,
+        due: Due::Nothing,
+    }
+}
+
+pub fn new_slot() -> Slot
+    ensures { λ r. ⌜ r ≡ newSlot ⌝ }
+{
+    let none = no_guards();
+    Slot {
+        used: true,
+        epoch: 0,
+        guards: none,
+        due: Due::Nothing,
+    }
+}
+
+// The slot with another epoch and another step due.
+fn with_due(epoch: u64, d: Due, s: Slot) -> Slot
+    ensures { λ r. ⌜ r ≡ withDue epoch d s ⌝ }
+{
+    let g = s.guards;
+    Slot {
+        used: s.used,
+        epoch: epoch,
+        guards: g,
+        due: d,
+    }
+}
+
+// The slot is free; its epoch stays.
+pub fn freed(s: Slot) -> Slot
+    ensures { λ r. ⌜ r ≡ freedRule s ⌝ }
+{
+    let g = s.guards;
+    let d = s.due;
+    Slot {
+        used: false,
+        epoch: s.epoch,
+        guards: g,
+        due: d,
+    }
+}
+
+// Guard `j` becomes `x`.
+fn put_guard(j: usize, x: Guard, g: [Guard; 4]) -> [Guard; 4]
+    ensures { λ r. ⌜ r ≡ putGuard j x g ⌝ }
+{
+    let mut after = g;
+    if j < 4 {
+        after[j] = x;
+    }
+    after
+}
+
+// The lowest free guard opens.
+fn guarded(right: bool, s: Slot) -> Slot
+    ensures { λ r. ⌜ r ≡ guardedRule right s ⌝ }
+{
+    let g = s.guards;
+    let x = Guard {
+        opened: true,
+        right: right,
+    };
+    let after = put_guard(first_guard(false, g), x, g);
+    Slot {
+        used: s.used,
+        epoch: s.epoch,
+        guards: after,
+        due: Due::Nothing,
+    }
+}
+
+// The load: `d` is what is due where the pointer is null.
+fn loaded(c: Control, d: Due, s: Slot) -> Made
+    ensures { λ r. ⌜ r ≡ loadedRule c d s ⌝ }
+{
+    if c.null {
+        let t = with_due(s.epoch, d, s);
+        return Made {
+            answer: Answer::None,
+            value: 0,
+            slot: t,
+        };
+    }
+    let g = s.guards;
+    let j = first_guard(false, g);
+    let t = guarded(c.right, s);
+    Made {
+        answer: Answer::Done,
+        value: j as u64,
+        slot: t,
+    }
+}
+
+pub fn entered(c: Control, s: Slot) -> Made
+    ensures { λ r. ⌜ r ≡ enteredRule c s ⌝ }
+{
+    let g = s.guards;
+    if any_open(g) {
+        let d = s.due;
+        return loaded(c, d, s);
+    }
+    let t = with_due(std::num::wrapping_add_u64(s.epoch, 1), Due::Load, s);
+    Made {
+        answer: Answer::Done,
+        value: 0,
+        slot: t,
+    }
+}
+
+pub fn went_on(c: Control, s: Slot) -> Made
+    ensures { λ r. ⌜ r ≡ wentOn c (s .due) s ⌝ }
+{
+    let d = s.due;
+    match d {
+        Due::Nothing => Made {
+            answer: Answer::NotNow,
+            value: 0,
+            slot: s,
+        },
+        Due::Load => loaded(c, Due::Restore, s),
+        Due::Restore => {
+            let t = with_due(std::num::wrapping_add_u64(s.epoch, 1), Due::Nothing, s);
+            Made {
+                answer: Answer::None,
+                value: 0,
+                slot: t,
+            }
+        }
+    }
+}
+
+// Guard `j` closes, and the last one adds one to the epoch.
+pub fn released(j: usize, s: Slot) -> Slot
+    ensures { λ r. ⌜ r ≡ releasedRule j s ⌝ }
+{
+    let shut = Guard {
+        opened: false,
+        right: false,
+    };
+    let before = s.guards;
+    let g = put_guard(j, shut, before);
+    let d = s.due;
+    if any_open(g) {
+        return Slot {
+            used: s.used,
+            epoch: s.epoch,
+            guards: g,
+            due: d,
+        };
+    }
+    Slot {
+        used: s.used,
+        epoch: std::num::wrapping_add_u64(s.epoch, 1),
+        guards: g,
+        due: d,
+    }
+}

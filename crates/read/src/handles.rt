@@ -1,0 +1,197 @@
+// A call on a handle, on the control part and the handle's own slot.
+use crate::Control;
+use crate::Due;
+use crate::Guard;
+use crate::Handle;
+use crate::Made;
+use crate::Signs;
+use crate::Slot;
+use crate::Verdict;
+use crate::admission;
+use crate::guards;
+use crate::judge;
+use table::Answer;
+ghost use mathlib.Core.Path.{_≡_};
+ghost use mathlib.Core.Bool.{Bool};
+ghost use lib.ListN.{getD};
+ghost use Rattle.table.specs.Copy.{lookRule};
+ghost use Rattle.read.specs.Handles.{mistimed as mistimedRule, leavesGuards, lacksGuard, lacksRoom, handleSigns, copyOf, guardedCopy, bit as bitRule, handled, handleOn};
+
+// Enter or drop with a step due, or go on with none.
+fn mistimed(h: Handle, d: Due) -> bool
+    ensures { λ r. ⌜ r ≡ mistimedRule h d ⌝ }
+{
+    match h {
+        Handle::Drop => guards::is_due(d),
+        Handle::Enter => guards::is_due(d),
+        Handle::GoOn => !guards::is_due(d),
+        Handle::Release(_) => false,
+        Handle::LookUp(_, _) => false,
+        Handle::WasDropped => false,
+    }
+}
+
+fn leaves_guards(h: Handle, g: [Guard; 4]) -> bool
+    ensures { λ r. ⌜ r ≡ leavesGuards h g ⌝ }
+{
+    match h {
+        Handle::Drop => guards::any_open(g),
+        Handle::Enter => false,
+        Handle::GoOn => false,
+        Handle::Release(_) => false,
+        Handle::LookUp(_, _) => false,
+        Handle::WasDropped => false,
+    }
+}
+
+fn lacks_guard(h: Handle, g: [Guard; 4]) -> bool
+    ensures { λ r. ⌜ r ≡ lacksGuard h g ⌝ }
+{
+    match h {
+        Handle::Drop => false,
+        Handle::Enter => false,
+        Handle::GoOn => false,
+        Handle::Release(j) => !guards::is_open(g, j),
+        Handle::LookUp(j, _) => !guards::is_open(g, j),
+        Handle::WasDropped => false,
+    }
+}
+
+fn lacks_room(h: Handle, null: bool, s: Slot) -> bool
+    ensures { λ r. ⌜ r ≡ lacksRoom h null s ⌝ }
+{
+    let g = s.guards;
+    match h {
+        Handle::Drop => false,
+        Handle::Enter => guards::all_open(g),
+        Handle::GoOn => {
+            let d = s.due;
+            if guards::is_load(d) {
+                if null { false } else { guards::all_open(g) }
+            } else {
+                false
+            }
+        }
+        Handle::Release(_) => false,
+        Handle::LookUp(_, _) => false,
+        Handle::WasDropped => false,
+    }
+}
+
+// What speaks against a call; `own`: on slot 0.
+pub fn signs(c: Control, own: bool, s: Slot, h: Handle) -> Signs
+    ensures { λ r. ⌜ r ≡ handleSigns c own s h ⌝ }
+{
+    let p = c.phase;
+    let e = admission::entry(p, admission::column(h, own));
+    let d = s.due;
+    let g = s.guards;
+    let early = mistimed(h, d);
+    let left = leaves_guards(h, g);
+    let lacking = lacks_guard(h, g);
+    let crowded = lacks_room(h, c.null, s);
+    Signs {
+        gone: false,
+        no_slot: !s.used,
+        operation: false,
+        not_now: judge::either(e == 6, early),
+        locked: e == 7,
+        guards_open: left,
+        no_guard: lacking,
+        four_guards: crowded,
+        log_full: false,
+        slots_full: false,
+    }
+}
+
+fn bit(b: bool) -> u64
+    ensures { λ r. ⌜ r ≡ bitRule b ⌝ }
+{
+    if b { 1 } else { 0 }
+}
+
+// The copy that guard `j` stands on.
+pub fn guarded_copy<'a>(g: [Guard; 4], j: usize, left: &'a [u64], right: &'a [u64]) -> &'a [u64]
+    ensures { λ r. ⌜ now r ≡ guardedCopy g j (now (left .entry)) (now (right .entry)) ⌝ }
+{
+    if j < 4 {
+        let x = g[j];
+        if x.right {
+            return right;
+        }
+    }
+    left
+}
+
+// The count of a key in a copy, 0 where it is absent.
+fn count(w: &[u64], key: u64) -> u64
+    ensures { λ r. ⌜ r ≡ getD (lookRule key (now (w .entry))) 1 0 ⌝ }
+{
+    let pair = table::look_up(w, key);
+    if 1 < pair.len() { pair[1] } else { 0 }
+}
+
+// What an admitted call does.
+fn act<'a>(c: Control, s: Slot, h: Handle, left: &'a [u64], right: &'a [u64]) -> Made
+    ensures { λ r. ⌜ r ≡ handled c s h (now (left .entry)) (now (right .entry)) ⌝ }
+{
+    match h {
+        Handle::Drop => {
+            let t = guards::freed(s);
+            Made {
+                answer: Answer::Done,
+                value: 0,
+                slot: t,
+            }
+        }
+        Handle::Enter => guards::entered(c, s),
+        Handle::GoOn => guards::went_on(c, s),
+        Handle::Release(j) => {
+            let t = guards::released(j, s);
+            Made {
+                answer: Answer::Done,
+                value: 0,
+                slot: t,
+            }
+        }
+        Handle::LookUp(j, key) => {
+            let g = s.guards;
+            let n = count(guarded_copy(g, j, left, right), key);
+            Made {
+                answer: Answer::Done,
+                value: n,
+                slot: s,
+            }
+        }
+        Handle::WasDropped => {
+            let n = bit(c.null);
+            Made {
+                answer: Answer::Done,
+                value: n,
+                slot: s,
+            }
+        }
+    }
+}
+
+// A call on a handle: refused with nothing changed, or made.
+pub fn handle<'a>(
+    c: Control,
+    own: bool,
+    s: Slot,
+    h: Handle,
+    left: &'a [u64],
+    right: &'a [u64],
+) -> Made
+    ensures { λ r. ⌜ r ≡ handleOn c own s h (now (left .entry)) (now (right .entry)) ⌝ }
+{
+    let v = judge::smallest(signs(c, own, s, h));
+    match v {
+        Verdict::Refused(a) => Made {
+            answer: a,
+            value: 0,
+            slot: s,
+        },
+        Verdict::Admitted => act(c, s, h, left, right),
+    }
+}

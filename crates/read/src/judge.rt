@@ -1,0 +1,201 @@
+// What every call is judged on, and which refusal is given.
+use crate::Control;
+use crate::Phase;
+use crate::Signs;
+use crate::Verdict;
+use table::Answer;
+ghost use mathlib.Core.Path.{_≡_};
+ghost use mathlib.Core.Bool.{_&&_, _||_};
+ghost use Prim.Native.Nat.{_≤_, _*_};
+ghost use lib.ListN.{length};
+ghost use Rattle.read.specs.Machine.{same as sameRule, locks as locksRule, nulls as nullsRule, isGone, underway as underwayRule, inRange, lawfulAt, firstUnlawful, sized as sizedRule, wholeControl, glanced, judged};
+ghost use Rattle.read.specs.Handles.{smallest as smallestRule};
+
+pub fn either(a: bool, b: bool) -> bool
+    ensures { λ r. ⌜ r ≡ (a || b) ⌝ }
+{
+    if a { true } else { b }
+}
+
+// The smallest number whose sign is set.
+pub fn smallest(s: Signs) -> Verdict
+    ensures { λ r. ⌜ r ≡ smallestRule s ⌝ }
+{
+    if s.gone {
+        return Verdict::Refused(Answer::Gone);
+    }
+    if s.no_slot {
+        return Verdict::Refused(Answer::NoSlot);
+    }
+    if s.operation {
+        return Verdict::Refused(Answer::Operation);
+    }
+    if s.not_now {
+        return Verdict::Refused(Answer::NotNow);
+    }
+    if s.locked {
+        return Verdict::Refused(Answer::Locked);
+    }
+    if s.guards_open {
+        return Verdict::Refused(Answer::GuardsOpen);
+    }
+    if s.no_guard {
+        return Verdict::Refused(Answer::NoGuard);
+    }
+    if s.four_guards {
+        return Verdict::Refused(Answer::FourGuards);
+    }
+    if s.log_full {
+        return Verdict::Refused(Answer::LogFull);
+    }
+    if s.slots_full {
+        return Verdict::Refused(Answer::SlotsFull);
+    }
+    Verdict::Admitted
+}
+
+// The lock is held in a publish, and from take's last snapshots to its finish.
+pub fn locks(p: Phase) -> bool
+    ensures { λ r. ⌜ r ≡ locksRule p ⌝ }
+{
+    match p {
+        Phase::Idle => false,
+        Phase::Begin => false,
+        Phase::Poll(_) => true,
+        Phase::Copy => true,
+        Phase::Drain => true,
+        Phase::Keep(_) => true,
+        Phase::Swap => true,
+        Phase::Snap(_) => true,
+        Phase::Null => false,
+        Phase::Lock => false,
+        Phase::LastSnap(_) => true,
+        Phase::LastPoll(_) => true,
+        Phase::Finish => true,
+        Phase::Gone => false,
+    }
+}
+
+// The pointer is null from take's lock step on.
+pub fn nulls(p: Phase) -> bool
+    ensures { λ r. ⌜ r ≡ nullsRule p ⌝ }
+{
+    match p {
+        Phase::Idle => false,
+        Phase::Begin => false,
+        Phase::Poll(_) => false,
+        Phase::Copy => false,
+        Phase::Drain => false,
+        Phase::Keep(_) => false,
+        Phase::Swap => false,
+        Phase::Snap(_) => false,
+        Phase::Null => false,
+        Phase::Lock => true,
+        Phase::LastSnap(_) => true,
+        Phase::LastPoll(_) => true,
+        Phase::Finish => true,
+        Phase::Gone => true,
+    }
+}
+
+// A phase's position is in range.
+fn in_range(c: Control) -> bool
+    ensures { λ r. ⌜ r ≡ inRange c (c .phase) ⌝ }
+{
+    let p = c.phase;
+    match p {
+        Phase::Idle => true,
+        Phase::Begin => true,
+        Phase::Poll(k) => k < 16,
+        Phase::Copy => true,
+        Phase::Drain => 0 < c.swapped,
+        Phase::Keep(k) => k < c.length,
+        Phase::Swap => true,
+        Phase::Snap(k) => k < 16,
+        Phase::Null => true,
+        Phase::Lock => true,
+        Phase::LastSnap(k) => k < 16,
+        Phase::LastPoll(k) => k < 16,
+        Phase::Finish => true,
+        Phase::Gone => true,
+    }
+}
+
+pub fn same(a: bool, b: bool) -> bool
+    ensures { λ r. ⌜ r ≡ sameRule a b ⌝ }
+{
+    if a { b } else { !b }
+}
+
+fn both(a: bool, b: bool) -> bool
+    ensures { λ r. ⌜ r ≡ (a && b) ⌝ }
+{
+    if a { b } else { false }
+}
+
+// The control part by itself: counts, position, lock and pointer.
+fn whole_control(c: Control) -> bool
+    ensures { λ r. ⌜ r ≡ wholeControl c ⌝ }
+{
+    let p = c.phase;
+    let fits = both(same(c.lock, locks(p)), same(c.null, nulls(p)));
+    both(
+        c.length <= 256,
+        both(c.swapped <= c.length, both(in_range(c), fits)),
+    )
+}
+
+// The first of `n` logged operations that is not as its kind asks, or `n`.
+fn first_unlawful(n: usize, log: &[u64]) -> usize
+    requires { ⌜ 3 * n ≤ length (now log) ⌝ }
+    ensures { λ r. ⌜ r ≡ firstUnlawful n (now (log .entry)) ⌝ }
+{
+    let mut i = 0;
+    while i < n {
+        if !table::lawful(log[3 * i], log[3 * i + 1], log[3 * i + 2]) {
+            return i;
+        }
+        i += 1;
+    }
+    i
+}
+
+pub fn sized(left: &[u64], right: &[u64], log: &[u64]) -> bool
+    ensures { λ r. ⌜ r ≡ sizedRule (now (left .entry)) (now (right .entry)) (now (log .entry)) ⌝ }
+{
+    both(
+        left.len() == 1026,
+        both(right.len() == 1026, log.len() == 768),
+    )
+}
+
+// Lengths, entry counts and the control part: all but the walk over the log.
+pub fn glance(c: Control, left: &[u64], right: &[u64], log: &[u64]) -> Verdict
+    ensures { λ r. ⌜ r ≡ glanced c (now (left .entry)) (now (right .entry)) (now (log .entry)) ⌝ }
+{
+    if !sized(left, right, log) {
+        return Verdict::Refused(Answer::Length);
+    }
+    if both(left[0] <= 512, both(right[0] <= 512, whole_control(c))) {
+        return Verdict::Admitted;
+    }
+    Verdict::Refused(Answer::Broken)
+}
+
+// What every call on the machine is judged on.
+pub fn judge(c: Control, left: &[u64], right: &[u64], log: &[u64]) -> Verdict
+    ensures { λ r. ⌜ r ≡ judged c (now (left .entry)) (now (right .entry)) (now (log .entry)) ⌝ }
+{
+    let v = glance(c, left, right, log);
+    match v {
+        Verdict::Refused(a) => Verdict::Refused(a),
+        Verdict::Admitted => {
+            let n = c.length;
+            if n <= first_unlawful(n, log) {
+                Verdict::Admitted
+            } else {
+                Verdict::Refused(Answer::Broken)
+            }
+        }
+    }
+}
