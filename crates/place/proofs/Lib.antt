@@ -1,0 +1,4 @@
+pub mod Cases
+pub mod Determined
+pub mod Laws
+pub mod Values
