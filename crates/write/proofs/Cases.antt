@@ -1,0 +1,138 @@
+-- The rules by cases: where the writer goes on, and what its calls do, with what was learnt on the way.
+use Prim.Native.Nat.{ℕ, zero, suc, _+_, _≤_, _<_}
+use mathlib.Core.Path.{_≡_, refl}
+use mathlib.Core.Bool.{Bool, true, false, not, _&&_, true≢false}
+use mathlib.Core.List.{List}
+use native.Mathlib.Omega.{arith}
+use lib.Dec.{ltb, leb}
+use borrow.Author.Tests.{ltb-true, ltb-false, leb-false, not-false}
+use Rattle.table.specs.Copy.{lawful}
+use Rattle.table.specs.declared.Answer.{Answer}
+use Rattle.table.specs.Answers.{number}
+use Rattle.read.specs.declared.Phase.{Phase}
+use Rattle.read.specs.declared.Phase.the-variants.{Idle, Begin, Poll, Copy, Drain, Keep, Swap, Snap, Null, LastSnap, LastPoll, Finish}
+use Rattle.read.specs.declared.Job.{Job}
+use Rattle.read.specs.declared.Job.the-variants.{Publish, Try, TakeFirst, TakeSecond}
+use Rattle.read.specs.declared.Control.{Control}
+use Rattle.read.specs.declared.Slot.{Slot}
+use Rattle.read.specs.declared.State.{State}
+use Rattle.read.specs.declared.Reply.{Reply}
+use Rattle.read.specs.Machine.{slotCount, logRoom}
+use Rattle.read.specs.Calls.{Lent, lent}
+use Rattle.read.specs.Handles.{smallest}
+use Rattle.write.specs.declared.Moved.{Moved}
+use Rattle.write.specs.declared.Opening.{Opening}
+use Rattle.write.specs.Steps.{at, keeping, draining, polled, polling, beginning, published, lastPolling, lastSnapping, snapping, ended, withLog, refused}
+use Rattle.write.specs.Begins.{writerSigns, columnOf, logged, madeAtOnce, appendFirst, appended, appendOn, opened, openOn}
+use Rattle.write.specs.Runs.{goOn}
+use Rattle.write.proofs.Verdicts.{judging, Refusal, refused-mild, admitted-unopposed, append-idle, open-idle}
+
+-- ---- a test, by its value
+
+pub by {ℓ} : {A : Type 0} (P : A → Type ℓ) (b : Bool) {x y : A} → (b ≡ true → P x) → (b ≡ false → P y) → P (elim b [ true ↦ x | false ↦ y ])
+by P true f g = f refl
+by P false f g = g refl
+
+pub below {ℓ} : {A : Type 0} (P : A → Type ℓ) (k n : ℕ) {x y : A} → (k < n → P x) → (n ≤ k → P y) → P (elim (ltb k n) [ true ↦ x | false ↦ y ])
+below P k n f g = by P (ltb k n) (λ e. f (ltb-true k n e)) (λ e. g (ltb-false k n e))
+
+-- ---- the phases
+
+module _ (P : Phase → Type 0) where
+  pub keeping-cases : (n k : ℕ) → (k < n → P (Keep k)) → (n ≤ k → P Swap) → P (keeping n k)
+  keeping-cases n k f g = below P k n f g
+
+  pub draining-cases : (s n : ℕ) → (0 < s → P Drain) → (s ≡ 0 → P (keeping n 0)) → P (draining s n)
+  draining-cases s n f g = below P 0 s f (λ h. g (omega arith))
+
+  pub polled-cases :
+      (c : Control) → (c .first ≡ true → P Swap) → (c .first ≡ false → c .second ≡ true → P Copy) →
+      (c .first ≡ false → c .second ≡ false → P (draining (c .swapped) (c .length))) → P (polled c)
+  polled-cases c f g h = by P (c .first) f (λ e. by P (c .second) (g e) (h e))
+
+  pub polling-cases : (c : Control) (k : ℕ) → (k < slotCount → P (Poll k)) → (slotCount ≤ k → P (polled c)) → P (polling c k)
+  polling-cases c k f g = below P k slotCount f g
+
+  pub beginning-cases : (c : Control) → (c .first ≡ true → P Swap) → (c .first ≡ false → P (polling c 0)) → P (beginning c)
+  beginning-cases c f g = by P (c .first) f g
+
+  pub lastPolling-cases : (k : ℕ) → (k < slotCount → P (LastPoll k)) → (slotCount ≤ k → P Finish) → P (lastPolling k)
+  lastPolling-cases k f g = below P k slotCount f g
+
+  pub lastSnapping-cases : (k : ℕ) → (k < slotCount → P (LastSnap k)) → (slotCount ≤ k → P (lastPolling 0)) → P (lastSnapping k)
+  lastSnapping-cases k f g = below P k slotCount f g
+
+  pub published-cases : (j : Job) (n : ℕ) → P Idle → P Begin → P Null → P (published j n)
+  published-cases Publish n i b u = i
+  published-cases Try n i b u = i
+  published-cases TakeFirst n i b u = below P 0 n (λ h. b) (λ h. u)
+  published-cases TakeSecond n i b u = u
+
+pub snapping-cases :
+    (P : Control → Type 0) (c : Control) (k : ℕ) → (k < slotCount → P (at (Snap k) c)) → (slotCount ≤ k → P (ended c)) → P (snapping c k)
+snapping-cases P c k f g = below P k slotCount f g
+
+-- ---- the calls that are made at once
+
+-- what an append that is made was admitted by
+pub record Appends (kind key amount : ℕ) (c : Control) : Type 0 where
+  pub idle : c .phase ≡ Idle
+  pub lawfully : lawful kind key amount ≡ true
+
+module _ (P : Lent Moved → Type 0) (kind key amount : ℕ) (c : Control) (s : Slot) (e : ℕ) (l r g : List ℕ)
+    (first : c .first ≡ true → Appends kind key amount c → P (appendFirst kind key amount c s e l r g))
+    (later :
+    c .first ≡ false → c .length < logRoom → Appends kind key amount c →
+    P (lent (madeAtOnce (withLog (c .length + 1) (c .swapped) c) s e) l r (logged (c .length) kind key amount g)))
+    (refusal : (a : Answer) → Refusal a → P (lent (refused a c s e) l r g))
+  where
+    roomy : (f : Bool) → f ≡ false → (not f && leb logRoom (c .length)) ≡ false → c .length < logRoom
+    roomy true q h = absurd (true≢false q)
+    roomy false q h = leb-false logRoom (c .length) h
+
+    appended-cases :
+        (not (c .first) && leb logRoom (c .length)) ≡ false → Appends kind key amount c → P (appended (c .first) kind key amount c s e l r g)
+    appended-cases full h =
+        by P (c .first) (λ q. first q h)
+        (λ q. below P (c .length) logRoom (λ u. later q u h) (λ u. absurd (let v = roomy (c .first) q full in omega arith)))
+
+    pub append-cases : P (appendOn kind key amount c s e l r g)
+    unfolding appendOn
+    append-cases =
+        let full = not (c .first) && leb logRoom (c .length) in
+        let signs = writerSigns 7 (not (lawful kind key amount)) full c s in
+        judging P (smallest signs)
+        (λ v.
+        let u = admitted-unopposed signs v in
+        appended-cases (u .log)
+        (record { idle = append-idle (not (lawful kind key amount)) full c s v; lawfully = not-false (lawful kind key amount) (u .operation) }))
+        (λ a v. refusal a (refused-mild signs a v))
+
+pub open-cases :
+    (P : Moved → Type 0) (o : Opening) (c : Control) (s : Slot) (e : ℕ) → (c .phase ≡ Idle → P (opened o c s e)) →
+    ((a : Answer) → Refusal a → P (refused a c s e)) → P (openOn o c s e)
+unfolding openOn
+open-cases P o c s e f g =
+    let signs = writerSigns (columnOf o) false false c s in
+    judging P (smallest signs) (λ v. f (open-idle o c s v)) (λ a v. g a (refused-mild signs a v))
+
+-- ---- a run
+
+-- what comes of a step in a run, by what it answered
+pub going-on :
+    (P : Lent Reply → Type 0) (rest : State → List ℕ → List ℕ → List ℕ → Lent Reply) (n : ℕ) (o : Lent Reply) →
+    (number (o .made .answer) ≡ 0 → P (rest (o .made .state) (o .left) (o .right) (o .log))) →
+    ((a : ℕ) → number (o .made .answer) ≡ suc a →
+    P (lent (record { answer = o .made .answer; value = n; state = o .made .state }) (o .left) (o .right) (o .log))) →
+    P (goOn rest n o)
+going-on P rest n o f g = go (number (o .made .answer)) f g
+  where
+    go : (x : ℕ) → (x ≡ 0 → P (rest (o .made .state) (o .left) (o .right) (o .log))) →
+        ((a : ℕ) → x ≡ suc a →
+        P (lent (record { answer = o .made .answer; value = n; state = o .made .state }) (o .left) (o .right) (o .log))) →
+        P (elim x [
+          | zero ↦ rest (o .made .state) (o .left) (o .right) (o .log)
+          | suc a ↦ lent (record { answer = o .made .answer; value = n; state = o .made .state }) (o .left) (o .right) (o .log)
+        ])
+    go zero f g = f refl
+    go (suc a) f g = g a refl

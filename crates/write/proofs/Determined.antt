@@ -1,0 +1,91 @@
+-- Each public contract determines what comes back and every lent word: any two results that it allows are equal.
+-- `Post` is the contract itself, as the check reads it from the source: of the arguments a, the result and the parameters at exit.
+use mathlib.Core.Path.{_≡_, sym, ap, _∙_}
+use mathlib.Core.List.{List}
+use Prim.Native.Nat.{ℕ}
+use denote.Ref.{now}
+use Rattle.read.specs.Calls.{Lent, lent}
+use Rattle.write.proofs.append.Reads as append
+use Rattle.write.proofs.step.Reads as step
+use Rattle.write.proofs.run.Reads as run
+use Rattle.write.proofs.step_on.Reads as step-on
+use Rattle.write.proofs.run_on.Reads as run-on
+use Rattle.write.proofs.publish.Reads as publish
+use Rattle.write.proofs.try_publish.Reads as try-publish
+use Rattle.write.proofs.flush.Reads as flush
+use Rattle.write.proofs.take.Reads as take
+use Rattle.write.proofs.begins.append_on.Reads as append-on
+use Rattle.write.proofs.begins.open_on.Reads as open-on
+use Rattle.write.proofs.steps.advance.Reads as advance
+use Rattle.write.proofs.steps.holds.Reads as holds
+use Rattle.write.proofs.steps.place.Reads as place
+
+-- two outcomes that are both what a rule says
+same :
+    {A : Type 0} {x y : A} {l m r q g h : List ℕ} {o : Lent A} → lent x l r g ≡ o → lent y m q h ≡ o →
+    (x ≡ y) × (l ≡ m) × (r ≡ q) × (g ≡ h)
+same {A} a b = (
+  ap (λ (o : Lent A). o .made) (a ∙ sym b),
+  ap (λ (o : Lent A). o .left) (a ∙ sym b),
+  ap (λ (o : Lent A). o .right) (a ∙ sym b),
+  ap (λ (o : Lent A). o .log) (a ∙ sym b),
+)
+
+made-same : {A : Type 0} {x y : A} {l r g : List ℕ} {o : Lent A} → lent x l r g ≡ o → lent y l r g ≡ o → x ≡ y
+made-same a b = same a b .0
+
+append-determined :
+    (κs : _) (a : _) (r q : _) (s t : _) → append.Post κs a r s → append.Post κs a q t →
+    (r ≡ q) × (now (s .1 .1 .1 .1 .0) ≡ now (t .1 .1 .1 .1 .0)) × (now (s .1 .1 .1 .1 .1 .0) ≡ now (t .1 .1 .1 .1 .1 .0)) × (now (s .1 .1 .1 .1 .1 .1 .0) ≡ now (t .1 .1 .1 .1 .1 .1 .0))
+append-determined κs a r q s t h l = same h l
+
+step-determined :
+    (κs : _) (a : _) (r q : _) (s t : _) → step.Post κs a r s → step.Post κs a q t →
+    (r ≡ q) × (now (s .1 .0) ≡ now (t .1 .0)) × (now (s .1 .1 .0) ≡ now (t .1 .1 .0)) × (now (s .1 .1 .1 .0) ≡ now (t .1 .1 .1 .0))
+step-determined κs a r q s t h l = same h l
+
+run-determined :
+    (κs : _) (a : _) (r q : _) (s t : _) → run.Post κs a r s → run.Post κs a q t →
+    (r ≡ q) × (now (s .1 .0) ≡ now (t .1 .0)) × (now (s .1 .1 .0) ≡ now (t .1 .1 .0)) × (now (s .1 .1 .1 .0) ≡ now (t .1 .1 .1 .0))
+run-determined κs a r q s t h l = same h l
+
+step-on-determined :
+    (κs : _) (a : _) (r q : _) (s t : _) → step-on.Post κs a r s → step-on.Post κs a q t →
+    (r ≡ q) × (now (s .1 .0) ≡ now (t .1 .0)) × (now (s .1 .1 .0) ≡ now (t .1 .1 .0)) × (now (s .1 .1 .1 .0) ≡ now (t .1 .1 .1 .0))
+step-on-determined κs a r q s t h l = same h l
+
+run-on-determined :
+    (κs : _) (a : _) (r q : _) (s t : _) → run-on.Post κs a r s → run-on.Post κs a q t →
+    (r ≡ q) × (now (s .1 .0) ≡ now (t .1 .0)) × (now (s .1 .1 .0) ≡ now (t .1 .1 .0)) × (now (s .1 .1 .1 .0) ≡ now (t .1 .1 .1 .0))
+run-on-determined κs a r q s t h l = same h l
+
+publish-determined : (κs : _) (a : _) (r q : _) (s t : _) → publish.Post κs a r s → publish.Post κs a q t → r ≡ q
+publish-determined κs a r q s t h l = made-same h l
+
+try-publish-determined : (κs : _) (a : _) (r q : _) (s t : _) → try-publish.Post κs a r s → try-publish.Post κs a q t → r ≡ q
+try-publish-determined κs a r q s t h l = made-same h l
+
+flush-determined : (κs : _) (a : _) (r q : _) (s t : _) → flush.Post κs a r s → flush.Post κs a q t → r ≡ q
+flush-determined κs a r q s t h l = made-same h l
+
+take-determined : (κs : _) (a : _) (r q : _) (s t : _) → take.Post κs a r s → take.Post κs a q t → r ≡ q
+take-determined κs a r q s t h l = made-same h l
+
+append-on-determined :
+    (κs : _) (a : _) (r q : _) (s t : _) → append-on.Post κs a r s → append-on.Post κs a q t →
+    (r ≡ q) × (now (s .1 .1 .1 .1 .1 .1 .0) ≡ now (t .1 .1 .1 .1 .1 .1 .0)) × (now (s .1 .1 .1 .1 .1 .1 .1 .0) ≡ now (t .1 .1 .1 .1 .1 .1 .1 .0)) × (now (s .1 .1 .1 .1 .1 .1 .1 .1 .0) ≡ now (t .1 .1 .1 .1 .1 .1 .1 .1 .0))
+append-on-determined κs a r q s t h l = same h l
+
+advance-determined :
+    (κs : _) (a : _) (r q : _) (s t : _) → advance.Post κs a r s → advance.Post κs a q t →
+    (r ≡ q) × (now (s .1 .1 .1 .0) ≡ now (t .1 .1 .1 .0)) × (now (s .1 .1 .1 .1 .0) ≡ now (t .1 .1 .1 .1 .0)) × (now (s .1 .1 .1 .1 .1 .0) ≡ now (t .1 .1 .1 .1 .1 .0))
+advance-determined κs a r q s t h l = same h l
+
+open-on-determined : (κs : _) (a : _) (r q : _) (s t : _) → open-on.Post κs a r s → open-on.Post κs a q t → r ≡ q
+open-on-determined κs a r q s t h l = h ∙ sym l
+
+holds-determined : (κs : _) (a : _) (r q : _) (s t : _) → holds.Post κs a r s → holds.Post κs a q t → r ≡ q
+holds-determined κs a r q s t h l = h ∙ sym l
+
+place-determined : (κs : _) (a : _) (r q : _) (s t : _) → place.Post κs a r s → place.Post κs a q t → r ≡ q
+place-determined κs a r q s t h l = h ∙ sym l

@@ -1,0 +1,82 @@
+-- What every call is judged on, as facts of the control part and of the lent words.
+use Prim.Native.Nat.{ℕ, _≤_}
+use mathlib.Core.Path.{_≡_, refl, ap}
+use mathlib.Core.Bool.{Bool, true, false, not, _&&_}
+use mathlib.Core.List.{List}
+use native.Mathlib.Omega.{arith}
+use lib.Dec.{eqb, leb}
+use lib.ListN.{length}
+use borrow.Author.Tests.{eqb-true, leb-true, eq-eqb, le-leb, not-false}
+use Rattle.table.specs.Copy.{pairs, words, entries}
+use Rattle.table.specs.declared.Answer.{Answer}
+use Rattle.table.specs.declared.Answer.the-variants as answer
+use Rattle.table.proofs.Seek.{seek-before, seek-none}
+use Rattle.read.specs.declared.Control.{Control}
+use Rattle.read.specs.declared.Verdict.{Verdict}
+use Rattle.read.specs.declared.Verdict.the-variants.{Admitted, Refused}
+use Rattle.read.specs.Machine.{logWords, lawfulAt, firstUnlawful, sized, wholeControl, glanced, judged}
+use Rattle.write.specs.Runs.{left}
+use Rattle.write.proofs.Verdicts.{refused-not}
+use Rattle.write.proofs.Control.{Whole, both, control-whole, whole-control}
+use Rattle.write.proofs.Words.{Words}
+
+-- ---- what is judged, as facts
+
+pub record Good (c : Control) (l r g : List ℕ) : Type 0 where
+  pub whole : Whole c
+  pub words : Words (c .length) l r g
+
+tested : (b : Bool) (v : Verdict) (a : Answer) → elim b [ true ↦ v | false ↦ Refused a ] ≡ Admitted → (b ≡ true) × (v ≡ Admitted)
+tested true v a e = (refl, e)
+tested false v a e = refused-not e
+
+passed-on : (v x : Verdict) → elim v [ Admitted ↦ x | Refused a ↦ Refused a ] ≡ Admitted → (v ≡ Admitted) × (x ≡ Admitted)
+passed-on Admitted x e = (refl, e)
+passed-on (Refused a) x e = refused-not e
+
+module _ (c : Control) (l r g : List ℕ) where
+  good-sized : Good c l r g → sized l r g ≡ true
+  good-sized h =
+      λ i.
+      eq-eqb (length l) words (h .words .left .sized) i
+      && (eq-eqb (length r) words (h .words .right .sized) i && eq-eqb (length g) logWords (h .words .log) i)
+
+  good-glanced : Good c l r g → glanced c l r g ≡ Admitted
+  unfolding glanced
+  good-glanced h =
+      let e : (leb (entries l) pairs && (leb (entries r) pairs && wholeControl c)) ≡ true =
+      λ i. le-leb (entries l) pairs (h .words .left .within) i
+      && (le-leb (entries r) pairs (h .words .right .within) i && whole-control c (h .whole) i) in
+      rw (good-sized h, e, glanced)
+
+  good-lawful : Good c l r g → firstUnlawful (c .length) g ≡ c .length
+  good-lawful h = seek-none (λ i. not (lawfulAt g i)) (c .length) (λ i b. ap not (h .words .lawfully i b))
+
+  pub good-judged : Good c l r g → judged c l r g ≡ Admitted
+  unfolding judged
+  good-judged h =
+      let e : leb (c .length) (firstUnlawful (c .length) g) ≡ true = le-leb (c .length) _ (omega (arith, good-lawful h)) in
+      rw (good-glanced h, e, judged)
+
+  pub judged-good : judged c l r g ≡ Admitted → Good c l r g
+  unfolding judged glanced
+  judged-good e =
+      let a = passed-on (glanced c l r g) _ e in
+      let x = tested (leb (c .length) (firstUnlawful (c .length) g)) Admitted answer.Broken (a .1) in
+      let b = tested (sized l r g) _ answer.Length (a .0) in
+      let d = tested (leb (entries l) pairs && (leb (entries r) pairs && wholeControl c)) Admitted answer.Broken (b .1) in
+      let s = both (eqb (length l) words) _ (b .0) in
+      let t = both (eqb (length r) words) _ (s .1) in
+      let m = both (leb (entries l) pairs) _ (d .0) in
+      let n = both (leb (entries r) pairs) _ (m .1) in
+      let k : c .length ≤ firstUnlawful (c .length) g = leb-true _ _ (x .0) in
+      record {
+        whole = control-whole c (n .1);
+        words =
+            record {
+              left = record { sized = eqb-true _ _ (s .0); within = leb-true _ _ (m .0) };
+              right = record { sized = eqb-true _ _ (t .0); within = leb-true _ _ (n .0) };
+              log = eqb-true _ _ (t .1);
+              lawfully = λ i h. not-false _ (seek-before (λ j. not (lawfulAt g j)) (c .length) i (omega arith));
+            };
+      }

@@ -1,0 +1,68 @@
+-- The lent words: each rule under the tests that lead to it, as the code's functions meet it.
+use Prim.Native.Nat.{ℕ, suc, _+_, _-_, _*_, _≤_, _<_}
+use mathlib.Core.Path.{_≡_, ap, _∙_}
+use mathlib.Core.Bool.{Bool, true, false}
+use mathlib.Core.List.{List, _++_}
+use native.Mathlib.Omega.{arith}
+use native.Mathlib.Numerals.{add-one}
+use borrow.Author.Tests.{lt-ltb, le-ltb, le-leb, lt-leb}
+use lib.ListN.{length, getD, take, drop, set, drop-of-length-le}
+use lib.Seq.{take-suc, drop-cons, take-all, length-take-le, set-at, append-snoc}
+use Rattle.table.specs.Copy.{closeRule, applyRule, Out}
+use Rattle.write.specs.Steps.{ofLeft, ofRight, logApplied, over, unlogged}
+use Rattle.write.specs.Begins.{logged}
+
+-- ---- which copy
+
+-- the pointer names the right copy, and the left one is changed
+pub of-left :
+    (side : Bool) (f : List ℕ → List ℕ) (l r : List ℕ) {w : List ℕ} →
+    side ≡ true → w ≡ f l → (w ≡ ofLeft side f l) × (r ≡ ofRight side f r)
+of-left side f l r q h = (rw (q, ofLeft) h, rw (q, ofRight))
+
+pub of-right :
+    (side : Bool) (f : List ℕ → List ℕ) (l r : List ℕ) {w : List ℕ} →
+    side ≡ false → w ≡ f r → (l ≡ ofLeft side f l) × (w ≡ ofRight side f r)
+of-right side f l r q h = (rw (q, ofLeft), rw (q, ofRight) h)
+
+-- ---- an operation of the log
+
+pub logged-applied :
+    (g : List ℕ) (i : ℕ) (w : List ℕ) {kind key amount : ℕ} {o : Out} →
+    i < 256 → kind ≡ getD g (3 * i) 0 → key ≡ getD g (3 * i + 1) 0 → amount ≡ getD g (3 * i + 2) 0 → o ≡ applyRule kind key amount w →
+    o .copy ≡ logApplied g i w
+logged-applied g i w h x y z e = ap (λ (o : Out). o .copy) e ∙ rw (x, y, z, logApplied, lt-ltb i 256 h)
+
+pub logged-beyond : (g : List ℕ) (i : ℕ) (w : List ℕ) → 256 ≤ i → w ≡ logApplied g i w
+logged-beyond g i w h = rw (logApplied, le-ltb i 256 h)
+
+pub unlogged-room : (n m : ℕ) (g : List ℕ) {w : List ℕ} → n ≤ 256 → m ≡ 3 * (n - 1) → w ≡ closeRule 3 m g → w ≡ unlogged n g
+unlogged-room n m g h q e = rw (unlogged, le-leb n 256 h) (e ∙ ap (λ (m : ℕ). closeRule 3 m g) q)
+
+pub unlogged-beyond : (n : ℕ) (g : List ℕ) → 256 < n → g ≡ unlogged n g
+unlogged-beyond n g h = rw (unlogged, lt-leb n 256 h)
+
+pub logged-put :
+    (n kind key amount : ℕ) (g : List ℕ) {x y z : List ℕ} →
+    x ≡ set g (3 * n) kind → y ≡ set x (3 * n + 1) key → z ≡ set y (3 * n + 2) amount → z ≡ logged n kind key amount g
+logged-put n kind key amount g x y z = z ∙ rw (y, x)
+
+-- ---- one copy over another
+
+-- the first i words are those of the one, the rest those of the other
+abbrev pub upTo : ℕ → List ℕ → List ℕ → List ℕ
+upTo i from to = take i from ++ drop i to
+
+pub up-to-more : (i : ℕ) (from to : List ℕ) → i < length from → i < length to → set (upTo i from to) i (getD from i 0) ≡ upTo (i + 1) from to
+up-to-more i from to h k =
+    rw (add-one, drop-cons to i 0, take-suc from i 0, append-snoc)
+    (set-at (take i from) (getD to i 0) (drop (suc i) to) (getD from i 0) i (length-take-le i from (omega arith)))
+
+-- no word of the one is left
+pub over-from : (i : ℕ) (from to : List ℕ) → i ≡ length from → i ≤ length to → upTo i from to ≡ over from to
+over-from i from to q h = rw (q, take-all (length from) from (omega arith), take-all (length to) from (omega arith))
+
+-- no word of the other is left
+pub over-to : (i : ℕ) (from to : List ℕ) → i ≡ length to → i ≤ length from → upTo i from to ≡ over from to
+over-to i from to q h =
+    rw (q, drop-of-length-le to {i = length to} (omega arith), drop-of-length-le to {i = length from} (omega arith))

@@ -1,0 +1,210 @@
+-- A machine that the rules reach from the fresh one is never broken: no call on it answers 1 or 2.
+use Prim.Native.Nat.{ℕ, zero, suc, _+_, _-_, _≤_}
+use mathlib.Core.Path.{_≡_, refl, sym, subst, _∙_}
+use mathlib.Core.List.{List, [], _∷_}
+use native.Mathlib.Omega.{arith}
+use lib.ListN.{length, replicate, length-set, length-replicate}
+use Rattle.table.specs.Answers.{number}
+use Rattle.table.specs.Copy.{words}
+use Rattle.table.specs.declared.Answer.{Answer}
+use Rattle.table.proofs.CopyFit.{fit-empty}
+use Rattle.read.specs.declared.Slot.{Slot}
+use Rattle.read.specs.declared.Control.{Control}
+use Rattle.read.specs.declared.State.{State}
+use Rattle.read.specs.declared.Handle.{Handle}
+use Rattle.read.specs.declared.Reply.{Reply}
+use Rattle.read.specs.declared.Verdict.the-variants.{Admitted}
+use Rattle.read.specs.Machine.{slotCount, logWords, judged, fresh, newSlot, noSlot}
+use Rattle.read.specs.Handles.{smallest}
+use Rattle.read.specs.Calls.{Lent, lent, slotAt, withSlot, handleReply, createReply, createSigns, firstFree}
+use Rattle.write.specs.declared.Moved.{Moved}
+use Rattle.write.specs.declared.Opening.{Opening}
+use Rattle.write.specs.declared.Opening.the-variants as opening
+use Rattle.write.specs.declared.Call.{Call}
+use Rattle.write.specs.declared.Call.the-variants.{Create, On, Append, Open, Step, Run}
+use Rattle.write.specs.Steps.{stepAt, place}
+use Rattle.write.specs.Begins.{stepSigns, appendOn, openOn, opened}
+use Rattle.write.specs.Runs.{snapAt, lift, stepOn, left, steps, runOn}
+use Rattle.write.specs.Machine.{going, callOn, callRule}
+use Rattle.write.proofs.Verdicts.{judging}
+use Rattle.write.proofs.Cases.{below, open-cases, going-on}
+use Rattle.write.proofs.Control.{some-slot, whole-step, whole-append, whole-open}
+use Rattle.write.proofs.Judged.{Good, good-judged}
+use Rattle.write.proofs.Refusals.{KindCall, made, kept, over, stillUpTo, kind-callOn}
+use Rattle.write.proofs.Words.{Words, words-step, words-append}
+
+-- a beginning leaves the log as it is
+opened-length : (o : Opening) (c : Control) (s : Slot) (e : ℕ) → opened o c s e .control .length ≡ c .length
+unfolding opened
+opened-length opening.Publish c s e = refl
+opened-length opening.Try c s e = refl
+opened-length opening.Flush c s e = below (λ (m : Moved). m .control .length ≡ c .length) (c .swapped) (c .length) (λ h. refl) (λ h. refl)
+opened-length opening.Take c s e = refl
+
+open-length : (o : Opening) (c : Control) (s : Slot) (e : ℕ) → openOn o c s e .control .length ≡ c .length
+open-length o c s e = open-cases (λ m. m .control .length ≡ c .length) o c s e (λ q. opened-length o c s e) (λ a h. refl)
+
+-- ---- a sound machine
+
+pub record Sound (st : State) (l r g : List ℕ) : Type 0 where
+  pub good : Good (st .control) l r g
+  pub slots : length (st .slots) ≡ slotCount
+  pub snapshots : length (st .snapshots) ≡ slotCount
+
+pub sound-judged : {st : State} {l r g : List ℕ} → Sound st l r g → judged (st .control) l r g ≡ Admitted
+sound-judged {st} {l} {r} {g} h = good-judged (st .control) l r g (h .good)
+
+pub sound-fresh : Sound fresh (replicate words 0) (replicate words 0) (replicate logWords 0)
+sound-fresh = record {
+  good = record {
+    whole = record { room = omega arith; within = omega arith; placed = tt; locked = refl; pointed = refl };
+    words = record { left = fit-empty; right = fit-empty; log = length-replicate {A = ℕ} logWords 0; lawfully = λ i h. absurd (omega arith) };
+  };
+  slots = rw (length-replicate (slotCount - 1) noSlot) (omega (arith, some-slot));
+  snapshots = length-replicate {A = ℕ} slotCount 0;
+}
+
+-- what comes of a call is sound
+abbrev pub SoundOut : Lent Reply → Type 0
+SoundOut o = Sound (o .made .state) (o .left) (o .right) (o .log)
+
+-- ---- the calls
+
+-- a move at one slot that leaves control part and words good
+sound-lift :
+    {st : State} {l r g : List ℕ} (i : ℕ) (m : Lent Moved) → Sound st l r g → Good (m .made .control) (m .left) (m .right) (m .log) →
+    SoundOut (lift i st m)
+sound-lift {st} i m h d = record {
+  good = d;
+  slots = length-set (st .slots) i (m .made .slot) ∙ h .slots;
+  snapshots = length-set (st .snapshots) i (m .made .snapshot) ∙ h .snapshots;
+}
+
+sound-slot : {st : State} {l r g : List ℕ} (i : ℕ) (s : Slot) → Sound st l r g → Sound (withSlot i s st) l r g
+sound-slot {st} i s h = record { good = h .good; slots = length-set (st .slots) i s ∙ h .slots; snapshots = h .snapshots }
+
+module _ (st : State) (l r g : List ℕ) (h : Sound st l r g) where
+  sound-create : (i : ℕ) → SoundOut (lent (createReply i st) l r g)
+  sound-create i =
+      judging (λ (a : Reply). SoundOut (lent a l r g)) (smallest (createSigns (st .control) i)) (λ v. sound-slot i newSlot h) (λ a v. h)
+
+  sound-handle : (i : ℕ) (k : Handle) → SoundOut (lent (handleReply i k l r st) l r g)
+  sound-handle i k = below (λ (a : Reply). SoundOut (lent a l r g)) i slotCount (λ b. sound-slot i _ h) (λ b. h)
+
+  sound-append : (kind key amount : ℕ) → SoundOut (lift 0 st (appendOn kind key amount (st .control) (slotAt st 0) (snapAt st 0) l r g))
+  sound-append kind key amount =
+      let c = st .control in
+      let s = slotAt st 0 in
+      let e = snapAt st 0 in
+      sound-lift 0 (appendOn kind key amount c s e l r g) h
+      (record {
+        whole = whole-append c (h .good .whole) s e kind key amount l r g;
+        words = words-append c s e l r g (h .good .words) kind key amount;
+      })
+
+  sound-open : (o : Opening) → SoundOut (lift 0 st (lent (openOn o (st .control) (slotAt st 0) (snapAt st 0)) l r g))
+  sound-open o =
+      let c = st .control in
+      let s = slotAt st 0 in
+      let e = snapAt st 0 in
+      sound-lift 0 (lent (openOn o c s e) l r g) h
+      (record { whole = whole-open c (h .good .whole) s e o; words = subst (λ (n : ℕ). Words n l r g) (sym (open-length o c s e)) (h .good .words) })
+
+  pub sound-step : SoundOut (stepOn st l r g)
+  unfolding stepOn
+  sound-step =
+      let c = st .control in
+      let i = place (c .phase) in
+      let s = slotAt st i in
+      let e = snapAt st i in
+      sound-lift i (stepAt (c .phase) c s e l r g) h
+      (record {
+        whole = whole-step c (h .good .whole) s e l r g;
+        words = words-step c s e l r g (h .good .words) (h .good .whole);
+      })
+
+pub sound-steps : (k n : ℕ) (st : State) (l r g : List ℕ) → Sound st l r g → SoundOut (steps k n st l r g)
+unfolding steps
+sound-steps zero n st l r g h = h
+sound-steps (suc k) n st l r g h =
+    let o = stepOn st l r g in
+    let x : SoundOut o = sound-step st l r g h in
+    going-on SoundOut (steps k (n + 1)) n o (λ z. sound-steps k (n + 1) (o .made .state) (o .left) (o .right) (o .log) x) (λ a z. x)
+
+sound-going :
+    (column : ℕ) (rule : State → List ℕ → List ℕ → List ℕ → Lent Reply) (st : State) (l r g : List ℕ) → Sound st l r g →
+    SoundOut (rule st l r g) → SoundOut (going column rule st l r g)
+sound-going column rule st l r g h x = judging SoundOut (smallest (stepSigns column (st .control))) (λ v. x) (λ a v. h)
+
+-- every call keeps it, whatever it answers
+pub sound-callOn : (k : Call) (st : State) (l r g : List ℕ) → Sound st l r g → SoundOut (callOn k st l r g)
+unfolding callOn runOn
+sound-callOn Create st l r g h = sound-create st l r g h (firstFree (st .slots))
+sound-callOn (On i k) st l r g h = sound-handle st l r g h i k
+sound-callOn (Append kind key amount) st l r g h = sound-append st l r g h kind key amount
+sound-callOn (Open o) st l r g h = sound-open st l r g h o
+sound-callOn Step st l r g h = sound-going 12 stepOn st l r g h (sound-step st l r g h)
+sound-callOn Run st l r g h = sound-going 13 runOn st l r g h (sound-steps (left (st .control)) 0 st l r g h)
+
+-- on a sound machine nothing is refused by 1 or 2
+pub call-made : (k : Call) (st : State) (l r g : List ℕ) → Sound st l r g → callRule k st l r g ≡ callOn k st l r g
+unfolding callRule
+call-made k st l r g h = rw (sound-judged h, callRule)
+
+pub sound-call : (k : Call) (st : State) (l r g : List ℕ) → Sound st l r g → SoundOut (callRule k st l r g)
+sound-call k st l r g h = subst SoundOut (sym (call-made k st l r g h)) (sound-callOn k st l r g h)
+
+-- ---- over any list of calls
+
+-- a machine with the words that it is lent
+abbrev pub called : Call → Lent State → Lent State
+called k w =
+    let o = callRule k (w .made) (w .left) (w .right) (w .log) in
+    lent (o .made .state) (o .left) (o .right) (o .log)
+
+abbrev pub played : List Call → Lent State → Lent State
+played [] w = w
+played (k ∷ ks) w = played ks (called k w)
+
+abbrev pub started : Lent State
+started = lent fresh (replicate words 0) (replicate words 0) (replicate logWords 0)
+
+abbrev SoundAt : Lent State → Type 0
+SoundAt w = Sound (w .made) (w .left) (w .right) (w .log)
+
+sound-played : (ks : List Call) (w : Lent State) → SoundAt w → SoundAt (played ks w)
+sound-played [] w h = h
+sound-played (k ∷ ks) w h = sound-played ks (called k w) (sound-call k (w .made) (w .left) (w .right) (w .log) h)
+
+pub sound-reached : (ks : List Call) → (let w = played ks started in Sound (w .made) (w .left) (w .right) (w .log))
+sound-reached ks = sound-played ks started sound-fresh
+
+-- neither 1 nor 2
+abbrev pub Unbroken : Answer → Type 0
+Unbroken a = (number a ≡ 1 → ⊥) × (number a ≡ 2 → ⊥)
+
+unbroken-kind :
+    {b : ℕ} {st : State} {l r g : List ℕ} {o : Lent Reply} → 12 ≤ b → KindCall b st l r g o → Unbroken (o .made .answer)
+unbroken-kind h (made z) = omega arith
+unbroken-kind h (kept a x) = omega arith
+unbroken-kind h (over x) = omega arith
+
+still-large : (k : Call) → 12 ≤ stillUpTo k
+still-large Create = omega arith
+still-large (On i h) = omega arith
+still-large (Append kind key amount) = omega arith
+still-large (Open o) = omega arith
+still-large Step = omega arith
+still-large Run = omega arith
+
+pub sound-unbroken : (k : Call) (st : State) (l r g : List ℕ) → Sound st l r g → Unbroken (callRule k st l r g .made .answer)
+sound-unbroken k st l r g h =
+    subst (λ (o : Lent Reply). Unbroken (o .made .answer)) (sym (call-made k st l r g h))
+    (unbroken-kind (still-large k) (kind-callOn st l r g k (h .good .whole)))
+
+pub never-broken :
+    (ks : List Call) (k : Call) →
+    (let w = played ks started in Unbroken (callRule k (w .made) (w .left) (w .right) (w .log) .made .answer))
+never-broken ks k =
+    let w = played ks started in
+    sound-unbroken k (w .made) (w .left) (w .right) (w .log) (sound-reached ks)

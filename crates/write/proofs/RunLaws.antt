@@ -1,0 +1,389 @@
+-- Run: what it gives from a state in which some steps are made already. One law for each turn that the loop of a run can take: a step
+-- that is made, a poll of the slot scan that passes, the scan's end, a poll that stops the run, and the end of the call.
+use Prim.Native.Nat.{ℕ, zero, suc, _+_, _-_, _≤_, _<_}
+use mathlib.Core.Path.{_≡_, refl, sym, ap, subst, _∙_}
+use mathlib.Core.Bool.{true, false, true≢false}
+use mathlib.Core.List.{List, [], _∷_}
+use native.Mathlib.Omega.{arith}
+use lib.ListN.{length, getD, set}
+use lib.Seq.{set-getD}
+use borrow.Author.Tests.{lt-ltb, le-ltb}
+use Rattle.table.specs.Answers.{number}
+use Rattle.table.specs.declared.Answer.{Answer}
+use Rattle.table.specs.declared.Answer.the-variants as answer
+use Rattle.read.specs.declared.Slot.{Slot}
+use Rattle.read.specs.declared.Phase.{Phase}
+use Rattle.read.specs.declared.Phase.the-variants.{Idle, Begin, Poll, Copy, Drain, Keep, Swap, Snap, Null, Lock, LastSnap, LastPoll, Finish, Gone}
+use Rattle.read.specs.declared.Job.{Job}
+use Rattle.read.specs.declared.Job.the-variants.{Publish, Try, TakeFirst, TakeSecond}
+use Rattle.read.specs.declared.Control.{Control}
+use Rattle.read.specs.declared.State.{State}
+use Rattle.read.specs.declared.Reply.{Reply}
+use Rattle.read.specs.Machine.{slotCount, noSlot, underway}
+use Rattle.read.specs.Calls.{Lent, lent}
+use Rattle.write.specs.declared.Moved.{Moved}
+use Rattle.write.specs.Steps.{at, polled, polling, lastPolling, holds, moved, refused, stopped, stepAt, place}
+use Rattle.write.specs.Scans.{polls, scanningAt, stopAnswer, stopControl, outcome, halted}
+use Rattle.write.specs.Runs.{lift, stepOn, left, goOn, steps, runOn}
+use Rattle.write.proofs.Control.{Placed, Whole, whole-step}
+use Rattle.write.proofs.Left.{step-answer, made-unless-polls, poll-passed, poll-stopped, lastPoll-passed, lastPoll-stopped, step-lowers, idle-left, underway-left, left-small}
+
+abbrev pub stateOf : Control → List Slot → List ℕ → State
+stateOf c ss es = record { control = c; slots = ss; snapshots = es }
+
+-- where a list is read within its length, the default does not matter
+pub getD-any {ℓ} : {A : Type ℓ} (l : List A) (i : ℕ) (d e : A) → i < length l → getD l i d ≡ getD l i e
+getD-any [] i d e h = absurd (omega arith)
+getD-any (a ∷ l) zero d e h = refl
+getD-any (a ∷ l) (suc i) d e h = getD-any l i d e (omega arith)
+
+-- ---- steps, one by one
+
+module _ (k n : ℕ) (st : State) (l r g : List ℕ) where
+  steps-made :
+      number (stepOn st l r g .made .answer) ≡ 0 →
+      steps (suc k) n st l r g
+      ≡ (let o = stepOn st l r g in steps k (n + 1) (o .made .state) (o .left) (o .right) (o .log))
+  unfolding steps
+  steps-made z = rw (z, goOn)
+
+  steps-stopped :
+      (a : ℕ) → number (stepOn st l r g .made .answer) ≡ suc a →
+      steps (suc k) n st l r g
+      ≡ (let o = stepOn st l r g in
+      lent (record { answer = o .made .answer; value = n; state = o .made .state }) (o .left) (o .right) (o .log))
+  unfolding steps
+  steps-stopped a z = rw (z, goOn)
+
+-- ---- a run from here
+
+-- what a run gives from here, n steps being made
+abbrev pub from : ℕ → Control → List Slot → List ℕ → List ℕ → List ℕ → List ℕ → Lent Reply
+from n c ss es l r g = steps (left c) n (stateOf c ss es) l r g
+
+module _ (n : ℕ) (c : Control) (ss : List Slot) (es l r g : List ℕ) where
+  pub from-idle :
+      underway (c .phase) ≡ false →
+      from n c ss es l r g ≡ lent (record { answer = answer.Done; value = n; state = stateOf c ss es }) l r g
+  unfolding steps
+  from-idle u = ap (λ (k : ℕ). steps k n (stateOf c ss es) l r g) (idle-left c u)
+
+  module _ (w : Whole c) (i : ℕ) (at-i : i ≡ place (c .phase)) (m : Lent Moved)
+      (e : m ≡ stepAt (c .phase) c (getD ss i noSlot) (getD es i 0) l r g)
+    where
+      here : stepOn (stateOf c ss es) l r g ≡ lift i (stateOf c ss es) m
+      unfolding stepOn
+      here = rw (e, at-i)
+
+      -- a step that is made
+      pub from-made :
+          number (m .made .answer) ≡ 0 →
+          from n c ss es l r g
+          ≡ from (n + 1) (m .made .control) (set ss i (m .made .slot)) (set es i (m .made .snapshot)) (m .left) (m .right) (m .log)
+      from-made z =
+          let s = getD ss i noSlot in
+          let d = getD es i 0 in
+          let y : number (stepAt (c .phase) c s d l r g .made .answer) ≡ 0 = ap (λ (v : Lent Moved). number (v .made .answer)) (sym e) ∙ z in
+          let x : left c ≡ suc (left (m .made .control)) =
+          step-lowers c s d w l r g y ∙ ap (λ (v : Lent Moved). suc (left (v .made .control))) (sym e) in
+          ap (λ (k : ℕ). steps k n (stateOf c ss es) l r g) x
+          ∙ steps-made (left (m .made .control)) n (stateOf c ss es) l r g (rw here z)
+          ∙ ap
+          (λ (o : Lent Reply). steps (left (m .made .control)) (n + 1) (o .made .state) (o .left) (o .right) (o .log)) here
+
+      -- one that is held or declined
+      pub from-stopped :
+          (a : ℕ) → number (m .made .answer) ≡ suc a → underway (c .phase) ≡ true →
+          from n c ss es l r g
+          ≡ lent
+          (record {
+            answer = m .made .answer;
+            value = n;
+            state = stateOf (m .made .control) (set ss i (m .made .slot)) (set es i (m .made .snapshot));
+          })
+          (m .left) (m .right) (m .log)
+      from-stopped a z u =
+          let h = underway-left c w u in
+          let x : left c ≡ suc (left c - 1) = omega arith in
+          ap (λ (k : ℕ). steps k n (stateOf c ss es) l r g) x
+          ∙ steps-stopped (left c - 1) n (stateOf c ss es) l r g a (rw here z)
+          ∙ ap
+          (λ (o : Lent Reply).
+          lent (record { answer = o .made .answer; value = n; state = o .made .state }) (o .left) (o .right) (o .log)) here
+
+-- ---- a run that is under way
+
+-- a run that is to give o, with k steps in all if none is held, has made n and is here: from here it gives o
+pub record Goes (o : Lent Reply) (k n : ℕ) (c : Control) (ss : List Slot) (es l r g : List ℕ) : Type 0 where
+  pub whole : Whole c
+  pub most : k ≤ 1000
+  pub count : n + left c ≡ k
+  pub same : from n c ss es l r g ≡ o
+
+-- where it starts
+pub goes-start :
+    (st : State) (l r g : List ℕ) → Whole (st .control) →
+    Goes (runOn st l r g) (left (st .control)) 0 (st .control) (st .slots) (st .snapshots) l r g
+unfolding runOn
+goes-start st l r g w = record { whole = w; most = left-small (st .control) w; count = omega arith; same = refl }
+
+module _ {o : Lent Reply} {k n : ℕ} {c : Control} {ss : List Slot} {es l r g : List ℕ} (h : Goes o k n c ss es l r g) where
+  -- the count does not run over, and while a call is under way there is one more to make
+  pub goes-few : n ≤ 1000
+  goes-few = omega (arith, h .count, h .most)
+
+  pub goes-more : underway (c .phase) ≡ true → n < k
+  goes-more u = omega (arith, h .count, underway-left c (h .whole) u)
+
+  -- no call is under way
+  pub goes-ended :
+      {a : Answer} → a ≡ answer.Done → underway (c .phase) ≡ false → lent (record { answer = a; value = n; state = stateOf c ss es }) l r g ≡ o
+  goes-ended q u =
+      ap (λ (b : Answer). lent (record { answer = b; value = n; state = stateOf c ss es }) l r g) q
+      ∙ sym (from-idle n c ss es l r g u) ∙ h .same
+
+  module _ (i : ℕ) (at-i : i ≡ place (c .phase)) (m : Lent Moved) (e : m ≡ stepAt (c .phase) c (getD ss i noSlot) (getD es i 0) l r g) where
+    goes-next :
+        number (m .made .answer) ≡ 0 →
+        Goes o k (n + 1) (m .made .control) (set ss i (m .made .slot)) (set es i (m .made .snapshot)) (m .left) (m .right) (m .log)
+    goes-next z =
+        let s = getD ss i noSlot in
+        let d = getD es i 0 in
+        let y : number (stepAt (c .phase) c s d l r g .made .answer) ≡ 0 = ap (λ (v : Lent Moved). number (v .made .answer)) (sym e) ∙ z in
+        let x : left c ≡ suc (left (m .made .control)) =
+        step-lowers c s d (h .whole) l r g y ∙ ap (λ (v : Lent Moved). suc (left (v .made .control))) (sym e) in
+        record {
+          whole = subst (λ (v : Lent Moved). Whole (v .made .control)) (sym e) (whole-step c (h .whole) s d l r g);
+          most = h .most;
+          count = omega (arith, h .count, x);
+          same = sym (from-made n c ss es l r g (h .whole) i at-i m e z) ∙ h .same;
+        }
+
+    -- a step that is no poll
+    pub goes-made :
+        underway (c .phase) ≡ true → polls (c .phase) ≡ false →
+        Goes o k (n + 1) (m .made .control) (set ss i (m .made .slot)) (set es i (m .made .snapshot)) (m .left) (m .right) (m .log)
+    goes-made u q =
+        let s = getD ss i noSlot in
+        let d = getD es i 0 in
+        goes-next
+        (ap (λ (v : Lent Moved). number (v .made .answer)) e
+        ∙ ap number (step-answer c s d l r g (c .phase) ∙ made-unless-polls (c .phase) (c .job) (holds s d) u q))
+
+    -- one that is held or declined
+    pub goes-stopped :
+        (a : ℕ) → number (m .made .answer) ≡ suc a → underway (c .phase) ≡ true →
+        lent
+        (record {
+          answer = m .made .answer;
+          value = n;
+          state = stateOf (m .made .control) (set ss i (m .made .slot)) (set es i (m .made .snapshot));
+        })
+        (m .left) (m .right) (m .log)
+        ≡ o
+    goes-stopped a z u = sym (from-stopped n c ss es l r g (h .whole) i at-i m e a z u) ∙ h .same
+
+-- ---- the slot scan
+
+-- the control part of a scan that began with c, before the poll of slot i, or behind the last
+abbrev pub scanning : Control → ℕ → Control
+scanning c i = at (scanningAt (c .phase) c i) c
+
+pub scanning-poll : (c : Control) (i : ℕ) {j : ℕ} → c .phase ≡ Poll j → scanning c i ≡ at (polling c i) c
+scanning-poll c i e = ap (λ (p : Phase). at (scanningAt p c i) c) e
+
+pub scanning-lastPoll : (c : Control) (i : ℕ) {j : ℕ} → c .phase ≡ LastPoll j → scanning c i ≡ at (lastPolling i) c
+scanning-lastPoll c i e = ap (λ (p : Phase). at (scanningAt p c i) c) e
+
+-- the run stands there
+abbrev pub Scans : Lent Reply → ℕ → ℕ → Control → ℕ → List Slot → List ℕ → List ℕ → List ℕ → List ℕ → Type 0
+Scans o k n c i ss es l r g = Goes o k n (scanning c i) ss es l r g
+
+-- the phase that a scan goes on with
+abbrev pub scanned : Phase → Control → Phase
+scanned Idle c = Idle
+scanned Begin c = Begin
+scanned (Poll k) c = polled c
+scanned Copy c = Copy
+scanned Drain c = Drain
+scanned (Keep k) c = Keep k
+scanned Swap c = Swap
+scanned (Snap k) c = Snap k
+scanned Null c = Null
+scanned Lock c = Lock
+scanned (LastSnap k) c = LastSnap k
+scanned (LastPoll k) c = Finish
+scanned Finish c = Finish
+scanned Gone c = Gone
+
+-- ---- its two kinds apart
+
+polling-here : (c : Control) (i : ℕ) → i < slotCount → polling c i ≡ Poll i
+polling-here c i h = rw (lt-ltb i slotCount h, polling)
+
+polling-end : (c : Control) (i : ℕ) → slotCount ≤ i → polling c i ≡ polled c
+polling-end c i h = rw (le-ltb i slotCount h, polling)
+
+lastPolling-here : (i : ℕ) → i < slotCount → lastPolling i ≡ LastPoll i
+lastPolling-here i h = rw (lt-ltb i slotCount h, lastPolling)
+
+lastPolling-end : (i : ℕ) → slotCount ≤ i → lastPolling i ≡ Finish
+lastPolling-end i h = rw (le-ltb i slotCount h, lastPolling)
+
+polls-cases :
+    (P : Phase → Type 0) → ((k : ℕ) → P (Poll k)) → ((k : ℕ) → P (LastPoll k)) → (p : Phase) → polls p ≡ true → P p
+polls-cases P f g Idle q = absurd (true≢false (sym q))
+polls-cases P f g Begin q = absurd (true≢false (sym q))
+polls-cases P f g (Poll k) q = f k
+polls-cases P f g Copy q = absurd (true≢false (sym q))
+polls-cases P f g Drain q = absurd (true≢false (sym q))
+polls-cases P f g (Keep k) q = absurd (true≢false (sym q))
+polls-cases P f g Swap q = absurd (true≢false (sym q))
+polls-cases P f g (Snap k) q = absurd (true≢false (sym q))
+polls-cases P f g Null q = absurd (true≢false (sym q))
+polls-cases P f g Lock q = absurd (true≢false (sym q))
+polls-cases P f g (LastSnap k) q = absurd (true≢false (sym q))
+polls-cases P f g (LastPoll k) q = g k
+polls-cases P f g Finish q = absurd (true≢false (sym q))
+polls-cases P f g Gone q = absurd (true≢false (sym q))
+
+-- a scan is under way: there is a slot to poll, or what follows the polls
+pub polls-underway : (p : Phase) → polls p ≡ true → underway p ≡ true
+polls-underway = polls-cases (λ p. underway p ≡ true) (λ k. refl) (λ k. refl)
+
+scanning-start : (c : Control) (p : Phase) → polls p ≡ true → Placed (c .length) (c .swapped) p → scanningAt p c (place p) ≡ p
+scanning-start c =
+    polls-cases (λ p. Placed (c .length) (c .swapped) p → scanningAt p c (place p) ≡ p) (λ k h. polling-here c k h)
+    (λ k h. lastPolling-here k h)
+
+scanning-end : (c : Control) (i : ℕ) (p : Phase) → polls p ≡ true → slotCount ≤ i → scanningAt p c i ≡ scanned p c
+scanning-end c i =
+    polls-cases (λ p. slotCount ≤ i → scanningAt p c i ≡ scanned p c) (λ k h. polling-end c i h) (λ k h. lastPolling-end i h)
+
+scanning-underway : (c : Control) (i : ℕ) (p : Phase) → polls p ≡ true → i < slotCount → underway (scanningAt p c i) ≡ true
+scanning-underway c i =
+    polls-cases (λ p. i < slotCount → underway (scanningAt p c i) ≡ true) (λ k b. ap underway (polling-here c i b))
+    (λ k b. ap underway (lastPolling-here i b))
+
+-- a whole control part has the lock that its phase asks
+at-own : (c : Control) → Whole c → at (c .phase) c ≡ c
+at-own c w =
+    λ i.
+    record {
+      right = c .right;
+      null = c .null;
+      lock = sym (w .locked) i;
+      first = c .first;
+      second = c .second;
+      phase = c .phase;
+      job = c .job;
+      length = c .length;
+      swapped = c .swapped;
+    }
+
+-- what a stop gives, slot and snapshot being put back
+stop-reply :
+    (n i : ℕ) (ss : List Slot) (es : List ℕ) (j : Job) (c : Control) (s : Slot) (e : ℕ) →
+    (let m = stopped j c s e in
+    _≡_ {A = Reply} (record { answer = m .answer; value = n; state = stateOf (m .control) (set ss i (m .slot)) (set es i (m .snapshot)) })
+    (record { answer = stopAnswer j; value = n; state = stateOf (stopControl j c) (set ss i s) (set es i e) }))
+stop-reply n i ss es Publish c s e = refl
+stop-reply n i ss es Try c s e = refl
+stop-reply n i ss es TakeFirst c s e = refl
+stop-reply n i ss es TakeSecond c s e = refl
+
+stop-number : (j : Job) (c : Control) (s : Slot) (e : ℕ) → (a : ℕ) × (number (stopped j c s e .answer) ≡ suc a)
+stop-number Publish c s e = (12, refl)
+stop-number Try c s e = (13, refl)
+stop-number TakeFirst c s e = (12, refl)
+stop-number TakeSecond c s e = (12, refl)
+
+module _ (o : Lent Reply) (k n : ℕ) (c : Control) (ss : List Slot) (es l r g : List ℕ) (i : ℕ) (b : i < slotCount) where
+  abbrev s : Slot
+  s = getD ss i noSlot
+
+  abbrev e : ℕ
+  e = getD es i 0
+
+  abbrev On : Phase → Type 0
+  On p = Goes o k n (at p c) ss es l r g
+
+  abbrev Passed : Phase → Type 0
+  Passed p = On (scanningAt p c i) → holds s e ≡ false → Goes o k (n + 1) (at (scanningAt p c (i + 1)) c) ss es l r g
+
+  passed-at : (p : Phase) → polls p ≡ true → Passed p
+  passed-at =
+      polls-cases Passed
+      (λ j h f.
+      let x =
+      goes-next (subst On (polling-here c i b) h) i refl (lent (moved (at (polling c (i + 1)) c) s e) l r g)
+      (sym (poll-passed i (at (Poll i) c) s e l r g f)) refl in
+      rw (set-getD ss i noSlot, set-getD es i 0) at x)
+      (λ j h f.
+      let x =
+      goes-next (subst On (lastPolling-here i b) h) i refl (lent (moved (at (lastPolling (i + 1)) c) s e) l r g)
+      (sym (lastPoll-passed i (at (LastPoll i) c) s e l r g f)) refl in
+      rw (set-getD ss i noSlot, set-getD es i 0) at x)
+
+  abbrev Stops : Phase → Type 0
+  Stops p =
+      On (scanningAt p c i) → holds s e ≡ true →
+      lent (record { answer = outcome p (c .job) true; value = n; state = stateOf (halted p (at (scanningAt p c i) c)) ss es }) l r g ≡ o
+
+  stopped-at : (p : Phase) → polls p ≡ true → Stops p
+  stopped-at =
+      polls-cases Stops
+      (λ j h f.
+      let p : Control = at (Poll i) c in
+      let z = stop-number (c .job) p s e in
+      let x =
+      goes-stopped (subst On (polling-here c i b) h) i refl (lent (stopped (c .job) p s e) l r g)
+      (sym (poll-stopped i p s e l r g f)) (z .0) (z .1) refl in
+      let y : lent (record { answer = stopAnswer (c .job); value = n; state = stateOf (stopControl (c .job) p) ss es }) l r g ≡ o =
+      rw (set-getD ss i noSlot, set-getD es i 0) at (ap (λ (v : Reply). lent v l r g) (sym (stop-reply n i ss es (c .job) p s e)) ∙ x) in
+      rw (polling-here c i b) y)
+      (λ j h f.
+      let p : Control = at (LastPoll i) c in
+      let x =
+      goes-stopped (subst On (lastPolling-here i b) h) i refl (lent (refused answer.Held p s e) l r g)
+      (sym (lastPoll-stopped i p s e l r g f)) 12 refl refl in
+      rw (lastPolling-here i b) (rw (set-getD ss i noSlot, set-getD es i 0) at x))
+
+module _ {o : Lent Reply} {k n : ℕ} (c : Control) {ss : List Slot} {es l r g : List ℕ} (i : ℕ) where
+  -- a control part that polls is the scan's first
+  pub scan-start : Goes o k n c ss es l r g → polls (c .phase) ≡ true → i ≡ place (c .phase) → Scans o k n c i ss es l r g
+  scan-start h q at-i =
+      let x : scanning c i ≡ c =
+      ap (λ (j : ℕ). scanning c j) at-i ∙ ap (λ (p : Phase). at p c) (scanning-start c (c .phase) q (h .whole .placed))
+      ∙ at-own c (h .whole) in
+      subst (λ (d : Control). Goes o k n d ss es l r g) (sym x) h
+
+  -- there is one more step to make
+  pub scan-more : Scans o k n c i ss es l r g → polls (c .phase) ≡ true → i < slotCount → n < k
+  scan-more h q b = goes-more h (scanning-underway c i (c .phase) q b)
+
+  -- the scan is left with the control part that it has come to
+  pub scan-left : {d : Control} → Scans o k n c i ss es l r g → d ≡ scanning c i → Goes o k n d ss es l r g
+  scan-left h e = subst (λ (d : Control). Goes o k n d ss es l r g) (sym e) h
+
+  -- behind the last slot the run goes on with what follows the polls
+  pub scan-end :
+      {d : Control} → Scans o k n c i ss es l r g → polls (c .phase) ≡ true → slotCount ≤ i → d ≡ at (scanned (c .phase) c) c →
+      Goes o k n d ss es l r g
+  scan-end h q b e =
+      subst (λ (d : Control). Goes o k n d ss es l r g) (ap (λ (p : Phase). at p c) (scanning-end c i (c .phase) q b) ∙ sym e) h
+
+  -- a poll that passes
+  pub scan-passed :
+      Scans o k n c i ss es l r g → polls (c .phase) ≡ true → i < slotCount → holds (getD ss i noSlot) (getD es i 0) ≡ false →
+      Scans o k (n + 1) c (i + 1) ss es l r g
+  scan-passed h q b f = passed-at o k n c ss es l r g i b (c .phase) q h f
+
+  -- a poll that is held or declined
+  pub scan-stopped :
+      {a : Answer} {d : Control} → Scans o k n c i ss es l r g → polls (c .phase) ≡ true → i < slotCount →
+      holds (getD ss i noSlot) (getD es i 0) ≡ true → a ≡ outcome (c .phase) (c .job) true → d ≡ halted (c .phase) (scanning c i) →
+      lent (record { answer = a; value = n; state = stateOf d ss es }) l r g ≡ o
+  scan-stopped h q b f x y =
+      (λ j. lent (record { answer = x j; value = n; state = stateOf (y j) ss es }) l r g)
+      ∙ stopped-at o k n c ss es l r g i b (c .phase) q h f

@@ -1,0 +1,211 @@
+-- The lent words: what every call is judged on, as facts, and that every step and append keeps it.
+use Prim.Native.Nat.{ℕ, _+_, _-_, _*_, _≤_, _<_}
+use mathlib.Core.Path.{_≡_, refl, sym, subst, _∙_}
+use mathlib.Core.Bool.{Bool, true, false}
+use mathlib.Core.List.{List, append-nil}
+use native.Mathlib.Omega.{arith}
+use lib.ListN.{length, getD, take, drop, set, length-set, length-replicate, length-drop, drop-of-length-le, List·getD-append}
+use lib.Seq.{length-take-le, take-all, getD-take, getD-drop, getD-set-same, getD-set-other}
+use borrow.Author.Tests.{le-leb}
+use Rattle.table.specs.Copy.{zeros, closed, lawful, Fit}
+use Rattle.table.proofs.Split.{split, under}
+use Rattle.table.proofs.Cases.{close-room, apply-made, apply-unlawful}
+use Rattle.table.proofs.CopyWords.{getD-zeros, length-closed}
+use Rattle.table.proofs.CopyFit.{fit-applied, fit-fits}
+use Rattle.read.specs.declared.Slot.{Slot}
+use Rattle.read.specs.declared.Phase.{Phase}
+use Rattle.read.specs.declared.Phase.the-variants.{Idle, Begin, Poll, Copy, Drain, Keep, Swap, Snap, Null, Lock, LastSnap, LastPoll, Finish, Gone}
+use Rattle.read.specs.declared.Job.{Job}
+use Rattle.read.specs.declared.Job.the-variants.{Publish, Try, TakeFirst, TakeSecond}
+use Rattle.read.specs.declared.Control.{Control}
+use Rattle.read.specs.Machine.{logRoom, logWords, lawfulAt}
+use Rattle.read.specs.Handles.{copyOf}
+use Rattle.read.specs.Calls.{Lent}
+use Rattle.write.specs.declared.Moved.{Moved}
+use Rattle.write.specs.Steps.{ofLeft, ofRight, operated, logApplied, over, unlogged, snapping, swappedOver, holds, stopped, pollMove, lastPollMove, stepAt}
+use Rattle.write.specs.Begins.{logged, appendOn}
+use Rattle.write.proofs.Cases.{below, snapping-cases, append-cases}
+use Rattle.write.proofs.Control.{Whole, Fits, fits}
+
+-- ---- the copies
+
+pub record Words (n : ℕ) (l r g : List ℕ) : Type 0 where
+  pub left : Fit l
+  pub right : Fit r
+  pub log : length g ≡ logWords
+  pub lawfully : (i : ℕ) → i < n → lawfulAt g i ≡ true
+
+pub fit-operated : (kind key amount : ℕ) (w : List ℕ) → Fit w → Fit (operated kind key amount w)
+fit-operated kind key amount w f =
+    split (lawful kind key amount)
+    (λ e. rw (operated, apply-made kind key amount w (fit-fits w f) e) (fit-applied kind key amount w f))
+    (λ e. rw (operated, apply-unlawful kind key amount w (fit-fits w f) e) f)
+
+fit-logApplied : (g : List ℕ) (i : ℕ) (w : List ℕ) → Fit w → Fit (logApplied g i w)
+fit-logApplied g i w f = below Fit i logRoom (λ h. fit-operated _ _ _ w f) (λ h. f)
+
+fit-over : (v w : List ℕ) → Fit v → Fit w → Fit (over v w)
+fit-over v w f h =
+    let e : length v ≡ length w = f .sized ∙ sym (h .sized) in
+    rw (take-all (length w) v (omega arith), drop-of-length-le w {i = length v} (omega arith), append-nil v) f
+
+fit-zeros : (w : List ℕ) → Fit w → Fit (zeros w)
+fit-zeros w f = record { sized = length-replicate (length w) 0 ∙ f .sized; within = rw (getD-zeros (length w) 0) (omega arith) }
+
+module _ (f : List ℕ → List ℕ) (h : (w : List ℕ) → Fit w → Fit (f w)) where
+  fit-left : (right : Bool) (l : List ℕ) → Fit l → Fit (ofLeft right f l)
+  fit-left true l x = h l x
+  fit-left false l x = x
+
+  fit-right : (right : Bool) (r : List ℕ) → Fit r → Fit (ofRight right f r)
+  fit-right true r x = x
+  fit-right false r x = h r x
+
+fit-copyOf : (right : Bool) (l r : List ℕ) → Fit l → Fit r → Fit (copyOf right l r)
+fit-copyOf true l r x y = y
+fit-copyOf false l r x y = x
+
+-- ---- the log
+
+-- a word behind the gap that is closed
+closed-moved : (d m : ℕ) (g : List ℕ) (x : ℕ) → d + m ≤ length g → x < m → getD (closed d m g) x 0 ≡ getD g (d + x) 0
+closed-moved d m g x h b =
+    let e : length (take m (drop d g)) ≡ m = length-take-le m (drop d g) (rw (length-drop d g) (omega arith)) in
+    List·getD-append (take m (drop d g)) _ 0 x (rw e b) ∙ getD-take m (drop d g) x 0 b ∙ getD-drop d g x 0
+
+alike-lawful :
+    (g d : List ℕ) (i j : ℕ) → getD d (3 * j) 0 ≡ getD g (3 * i) 0 → getD d (3 * j + 1) 0 ≡ getD g (3 * i + 1) 0 →
+    getD d (3 * j + 2) 0 ≡ getD g (3 * i + 2) 0 → lawfulAt g i ≡ true → lawfulAt d j ≡ true
+alike-lawful g d i j x y z h = (λ k. lawful (x k) (y k) (z k)) ∙ h
+
+-- the first of n operations is taken off
+module _ (n : ℕ) (g : List ℕ) (some : 0 < n) (room : n ≤ logRoom) (sized : length g ≡ logWords) where
+  unlogged-closed : unlogged n g ≡ closed 3 (3 * (n - 1)) g
+  unlogged-closed = rw (le-leb n logRoom room, unlogged, close-room 3 (3 * (n - 1)) g (omega arith))
+
+  length-unlogged : length (unlogged n g) ≡ logWords
+  length-unlogged = rw (unlogged-closed, length-closed 3 (3 * (n - 1)) g (omega arith)) sized
+
+  moved-word : (x y : ℕ) → x < 3 * (n - 1) → y ≡ 3 + x → getD (unlogged n g) x 0 ≡ getD g y 0
+  moved-word x y b e = rw (unlogged-closed, e) (closed-moved 3 (3 * (n - 1)) g x (omega arith) b)
+
+  lawful-unlogged : ((i : ℕ) → i < n → lawfulAt g i ≡ true) → (i : ℕ) → i < n - 1 → lawfulAt (unlogged n g) i ≡ true
+  lawful-unlogged h i b =
+      alike-lawful g (unlogged n g) (i + 1) i (moved-word (3 * i) (3 * (i + 1)) (omega arith) (omega arith))
+      (moved-word (3 * i + 1) (3 * (i + 1) + 1) (omega arith) (omega arith))
+      (moved-word (3 * i + 2) (3 * (i + 1) + 2) (omega arith) (omega arith)) (h (i + 1) (omega arith))
+
+-- one more operation behind n others
+module _ (n kind key amount : ℕ) (g : List ℕ) (room : n < logRoom) (sized : length g ≡ logWords) where
+  length-logged : length (logged n kind key amount g) ≡ logWords
+  length-logged = simp length-set sized
+
+  other-word : (x : ℕ) → x < 3 * n → getD (logged n kind key amount g) x 0 ≡ getD g x 0
+  other-word x b =
+      getD-set-other (set (set g (3 * n) kind) (3 * n + 1) key) (3 * n + 2) x amount 0 (omega arith)
+      ∙ getD-set-other (set g (3 * n) kind) (3 * n + 1) x key 0 (omega arith)
+      ∙ getD-set-other g (3 * n) x kind 0 (omega arith)
+
+  kind-word : getD (logged n kind key amount g) (3 * n) 0 ≡ kind
+  kind-word =
+      getD-set-other (set (set g (3 * n) kind) (3 * n + 1) key) (3 * n + 2) (3 * n) amount 0 (omega arith)
+      ∙ getD-set-other (set g (3 * n) kind) (3 * n + 1) (3 * n) key 0 (omega arith)
+      ∙ getD-set-same g (3 * n) kind 0 (omega arith)
+
+  key-word : getD (logged n kind key amount g) (3 * n + 1) 0 ≡ key
+  key-word =
+      getD-set-other (set (set g (3 * n) kind) (3 * n + 1) key) (3 * n + 2) (3 * n + 1) amount 0 (omega arith)
+      ∙ getD-set-same (set g (3 * n) kind) (3 * n + 1) key 0 (rw (length-set g (3 * n) kind) (omega arith))
+
+  amount-word : getD (logged n kind key amount g) (3 * n + 2) 0 ≡ amount
+  amount-word =
+      getD-set-same (set (set g (3 * n) kind) (3 * n + 1) key) (3 * n + 2) amount 0
+      (rw (length-set (set g (3 * n) kind) (3 * n + 1) key, length-set g (3 * n) kind) (omega arith))
+
+  lawful-logged :
+      lawful kind key amount ≡ true → ((i : ℕ) → i < n → lawfulAt g i ≡ true) → (i : ℕ) → i < n + 1 →
+      lawfulAt (logged n kind key amount g) i ≡ true
+  lawful-logged new h i b =
+      under i n
+      (λ u.
+      alike-lawful g (logged n kind key amount g) i i (other-word (3 * i) (omega arith)) (other-word (3 * i + 1) (omega arith))
+      (other-word (3 * i + 2) (omega arith)) (h i u))
+      (λ u.
+      let e : i ≡ n = omega arith in
+      rw e ((λ k. lawful (kind-word k) (key-word k) (amount-word k)) ∙ new))
+
+-- ---- a step, and append
+
+abbrev pub WordsOf : Lent Moved → Type 0
+WordsOf m = Words (m .made .control .length) (m .left) (m .right) (m .log)
+
+-- what changes the copies alone
+words-copies :
+    {n : ℕ} {l r g : List ℕ} (right : Bool) (f : List ℕ → List ℕ) → ((w : List ℕ) → Fit w → Fit (f w)) → Words n l r g →
+    Words n (ofLeft right f l) (ofRight right f r) g
+words-copies {l} {r} right f h w =
+    record { left = fit-left f h right l (w .left); right = fit-right f h right r (w .right); log = w .log; lawfully = w .lawfully }
+
+module _ (c : Control) (s : Slot) (e : ℕ) (l r g : List ℕ) (w : Words (c .length) l r g) where
+  words-snapping : (d : Control) (k : ℕ) → d .length ≡ c .length → Words (snapping d k .length) l r g
+  words-snapping d k q =
+      snapping-cases (λ x. Words (x .length) l r g) d k (λ h. subst (λ (n : ℕ). Words n l r g) (sym q) w)
+      (λ h. subst (λ (n : ℕ). Words n l r g) (sym q) w)
+
+  words-stopped : (j : Job) → Words (stopped j c s e .control .length) l r g
+  words-stopped Publish = w
+  words-stopped Try = w
+  words-stopped TakeFirst = w
+  words-stopped TakeSecond = w
+
+  words-poll : (held : Bool) (k : ℕ) → Words (pollMove held k c s e .control .length) l r g
+  words-poll true k = words-stopped (c .job)
+  words-poll false k = w
+
+  words-lastPoll : (held : Bool) (k : ℕ) → Words (lastPollMove held k c s e .control .length) l r g
+  words-lastPoll true k = w
+  words-lastPoll false k = w
+
+  words-stepAt : Whole c → (p : Phase) → Fits (c .length) (c .swapped) (c .null) p → WordsOf (stepAt p c s e l r g)
+  unfolding stepAt
+  words-stepAt v Idle f = w
+  words-stepAt v Begin f = w
+  words-stepAt v (Poll k) f = words-poll (holds s e) k
+  words-stepAt v Copy f =
+      words-copies (c .right) (over (copyOf (c .right) l r))
+      (λ x h. fit-over (copyOf (c .right) l r) x (fit-copyOf (c .right) l r (w .left) (w .right)) h) w
+  words-stepAt v Drain f =
+      let x = words-copies (c .right) (logApplied g 0) (fit-logApplied g 0) w in
+      let some : 0 < c .length = omega (arith, v .within) in
+      record {
+        left = x .left;
+        right = x .right;
+        log = length-unlogged (c .length) g some (v .room) (w .log);
+        lawfully = lawful-unlogged (c .length) g some (v .room) (w .log) (w .lawfully);
+      }
+  words-stepAt v (Keep k) f = words-copies (c .right) (logApplied g k) (fit-logApplied g k) w
+  words-stepAt v Swap f = words-snapping (swappedOver c) 0 refl
+  words-stepAt v (Snap k) f = words-snapping c (k + 1) refl
+  words-stepAt v Null f = w
+  words-stepAt v Lock f = w
+  words-stepAt v (LastSnap k) f = w
+  words-stepAt v (LastPoll k) f = words-lastPoll (holds s e) k
+  words-stepAt v Finish f =
+      let x = words-copies (c .right) zeros fit-zeros w in
+      record { left = x .left; right = x .right; log = length-replicate (length g) 0 ∙ w .log; lawfully = λ i h. absurd (omega arith) }
+  words-stepAt v Gone f = w
+
+  pub words-step : Whole c → WordsOf (stepAt (c .phase) c s e l r g)
+  words-step v = words-stepAt v (c .phase) (fits v)
+
+  pub words-append : (kind key amount : ℕ) → WordsOf (appendOn kind key amount c s e l r g)
+  words-append kind key amount =
+      append-cases WordsOf kind key amount c s e l r g
+      (λ q h. words-copies (c .right) (operated kind key amount) (fit-operated kind key amount) w)
+      (λ q u h. record {
+        left = w .left;
+        right = w .right;
+        log = length-logged (c .length) kind key amount g u (w .log);
+        lawfully = lawful-logged (c .length) kind key amount g u (w .log) (h .lawfully) (w .lawfully);
+      })
+      (λ a h. w)

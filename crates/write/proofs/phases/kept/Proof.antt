@@ -1,0 +1,28 @@
+-- Its test is the rule's, one operation further.
+use Prim.Native.Nat.{_+_}
+use native.Mathlib.Omega.{arith}
+use borrow.Author.Needs.{needs}
+use Rattle.write.proofs.Next.{keeping-here, keeping-done}
+use Rattle.write.proofs.phases.kept.Statement.{statement}
+use Rattle.write.proofs.phases.kept.Tie as tie
+
+add-next : tie.Need-add-next
+add-next c = search needs
+
+returns : tie.Need-returns
+returns c =
+    let a = c .before .before .args in
+    keeping-here (a .n) (a .k + 1) (c .if2 .taken)
+
+returns-2 : tie.Need-returns-2
+returns-2 c =
+    let a = c .before .before .args in
+    keeping-done (a .n) (a .k + 1) (c .if2 .left)
+
+returns-3 : tie.Need-returns-3
+returns-3 c =
+    let a = c .before .args in
+    keeping-done (a .n) (a .k + 1) (omega arith)
+
+pub kept-spec : {M : Type 1} → statement M
+kept-spec = tie.close (tie.spec add-next returns returns-2 returns-3)

@@ -1,0 +1,54 @@
+-- The words behind the first operation move down.
+use mathlib.Core.Path.{refl}
+use native.Mathlib.Omega.{arith}
+use borrow.Author.Needs.{needs}
+use Rattle.write.proofs.Lent.{unlogged-room, unlogged-beyond}
+use Rattle.write.proofs.slices.unlog.Statement.{statement}
+use Rattle.write.proofs.slices.unlog.Tie as tie
+
+close-gap-requires : tie.Need-close-gap-requires
+close-gap-requires c κs = search needs
+
+sub-close-gap : tie.Need-sub-close-gap
+sub-close-gap c = search needs
+
+mul-close-gap : tie.Need-mul-close-gap
+mul-close-gap c = search needs
+
+close-gap-requires-2 : tie.Need-close-gap-requires-2
+close-gap-requires-2 c κs = search needs
+
+same-length : tie.Need-same-length
+same-length c = search needs
+
+returns : tie.Need-returns
+returns c =
+    let a = c .before .before .before .before .before .before .before .args in
+    unlogged-room (a .n) 0 (a .log .now) (c .before .before .before .before .before .if1 .taken) (omega arith) (c .before .before .close-gap .ensures)
+
+same-length-2 : tie.Need-same-length-2
+same-length-2 c = search needs
+
+returns-2 : tie.Need-returns-2
+returns-2 c =
+    let a = c .before .before .before .before .before .before .before .args in
+    unlogged-room (a .n) _ (a .log .now) (c .before .before .before .before .before .if1 .taken) refl (c .before .before .close-gap2 .ensures)
+
+returns-3 : tie.Need-returns-3
+returns-3 c =
+    let a = c .before .before .args in
+    unlogged-beyond (a .n) (a .log .now) (c .if1 .left)
+
+pub unlog-spec : {M : Type 1} → statement M
+unlog-spec =
+    tie.close
+    (tie.spec
+    close-gap-requires
+    sub-close-gap
+    mul-close-gap
+    close-gap-requires-2
+    same-length
+    returns
+    same-length-2
+    returns-2
+    returns-3)

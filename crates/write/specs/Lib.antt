@@ -1,0 +1,6 @@
+pub mod Steps
+pub mod Begins
+pub mod Scans
+pub mod Runs
+pub mod Machine
+pub mod Glanced

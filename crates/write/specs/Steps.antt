@@ -1,0 +1,261 @@
+-- What one step of the writer does, to the control part, to the one slot that it looks at with its snapshot, and to the lent words.
+use Prim.Native.Nat.{ℕ, _+_, _-_, _*_, _%_}
+use mathlib.Core.Bool.{Bool, true, false, not, _&&_}
+use mathlib.Core.List.{List, _++_}
+use lib.ListN.{length, getD, take, drop}
+use lib.Dec.{eqb, ltb, leb}
+use Rattle.table.specs.Copy.{zeros, applyRule, closeRule}
+use Rattle.table.specs.declared.Answer.{Answer}
+use Rattle.table.specs.declared.Answer.the-variants as answer
+use Rattle.read.specs.declared.Slot.{Slot}
+use Rattle.read.specs.declared.Phase.{Phase}
+use Rattle.read.specs.declared.Phase.the-variants.{Idle, Begin, Poll, Copy, Drain, Keep, Swap, Snap, Null, Lock, LastSnap, LastPoll, Finish, Gone}
+use Rattle.read.specs.declared.Job.{Job}
+use Rattle.read.specs.declared.Job.the-variants.{Publish, Try, TakeFirst, TakeSecond}
+use Rattle.read.specs.declared.Control.{Control}
+use Rattle.read.specs.Machine.{slotCount, logRoom, underway, locks}
+use Rattle.read.specs.Handles.{freed, copyOf, bit}
+use Rattle.read.specs.Calls.{Lent, lent}
+use Rattle.write.specs.declared.Moved.{Moved}
+
+-- ---- one slot
+
+-- a poll is held: the slot is in use, and its epoch is still the odd one of its snapshot
+abbrev pub holds : Slot → ℕ → Bool
+holds s e = s .used && (eqb (e % 2) 1 && eqb e (s .epoch))
+
+-- a used slot's epoch becomes its snapshot
+abbrev pub seen : Slot → ℕ → ℕ
+seen s e = elim (s .used) [ true ↦ s .epoch | false ↦ e ]
+
+-- ---- where the writer goes on, when all before is done
+
+abbrev pub keeping : ℕ → ℕ → Phase
+keeping n k = elim (ltb k n) [ true ↦ Keep k | false ↦ Swap ]
+
+-- s operations before the swap index, of n
+abbrev pub draining : ℕ → ℕ → Phase
+draining s n = elim (ltb 0 s) [ true ↦ Drain | false ↦ keeping n 0 ]
+
+abbrev pub polled : Control → Phase
+polled c =
+    elim (c .first)
+    [ true ↦ Swap | false ↦ elim (c .second) [ true ↦ Copy | false ↦ draining (c .swapped) (c .length) ] ]
+
+abbrev pub polling : Control → ℕ → Phase
+polling c k = elim (ltb k slotCount) [ true ↦ Poll k | false ↦ polled c ]
+
+-- a publish that is not the first polls first
+abbrev pub beginning : Control → Phase
+beginning c = elim (c .first) [ true ↦ Swap | false ↦ polling c 0 ]
+
+-- what follows the last snapshot of a publish; take's first publish is followed by another if the log still holds anything
+abbrev pub published : Job → ℕ → Phase
+published Publish n = Idle
+published Try n = Idle
+published TakeFirst n = elim (ltb 0 n) [ true ↦ Begin | false ↦ Null ]
+published TakeSecond n = Null
+
+abbrev pub nextJob : Job → Job
+nextJob Publish = Publish
+nextJob Try = Try
+nextJob TakeFirst = TakeSecond
+nextJob TakeSecond = TakeSecond
+
+abbrev pub lastPolling : ℕ → Phase
+lastPolling k = elim (ltb k slotCount) [ true ↦ LastPoll k | false ↦ Finish ]
+
+abbrev pub lastSnapping : ℕ → Phase
+lastSnapping k = elim (ltb k slotCount) [ true ↦ LastSnap k | false ↦ lastPolling 0 ]
+
+-- ---- the control part
+
+-- another phase, with the lock that fits it
+abbrev pub at : Phase → Control → Control
+at p c =
+    record {
+      right = c .right;
+      null = c .null;
+      lock = locks p;
+      first = c .first;
+      second = c .second;
+      phase = p;
+      job = c .job;
+      length = c .length;
+      swapped = c .swapped;
+    }
+
+abbrev pub withJob : Job → Control → Control
+withJob j c =
+    record {
+      right = c .right;
+      null = c .null;
+      lock = c .lock;
+      first = c .first;
+      second = c .second;
+      phase = c .phase;
+      job = j;
+      length = c .length;
+      swapped = c .swapped;
+    }
+
+-- the log holds n operations, of which s stand in the copy that is read
+abbrev pub withLog : ℕ → ℕ → Control → Control
+withLog n s c =
+    record {
+      right = c .right;
+      null = c .null;
+      lock = c .lock;
+      first = c .first;
+      second = c .second;
+      phase = c .phase;
+      job = c .job;
+      length = n;
+      swapped = s;
+    }
+
+abbrev pub copied : Control → Control
+copied c =
+    record {
+      right = c .right;
+      null = c .null;
+      lock = c .lock;
+      first = c .first;
+      second = false;
+      phase = c .phase;
+      job = c .job;
+      length = c .length;
+      swapped = c .swapped;
+    }
+
+abbrev pub swappedOver : Control → Control
+swappedOver c =
+    record {
+      right = not (c .right);
+      null = c .null;
+      lock = c .lock;
+      first = false;
+      second = c .second;
+      phase = c .phase;
+      job = c .job;
+      length = c .length;
+      swapped = c .length;
+    }
+
+abbrev pub nulled : Control → Control
+nulled c =
+    record {
+      right = c .right;
+      null = true;
+      lock = c .lock;
+      first = c .first;
+      second = c .second;
+      phase = c .phase;
+      job = c .job;
+      length = c .length;
+      swapped = c .swapped;
+    }
+
+-- a publish ends
+abbrev pub ended : Control → Control
+ended c = at (published (c .job) (c .length)) (withJob (nextJob (c .job)) c)
+
+abbrev pub snapping : Control → ℕ → Control
+snapping c k = elim (ltb k slotCount) [ true ↦ at (Snap k) c | false ↦ ended c ]
+
+abbrev pub drained : Control → Control
+drained c =
+    let n = c .length - 1 in
+    let s = c .swapped - 1 in
+    at (draining s n) (withLog n s c)
+
+-- ---- the lent words
+
+-- the copy that the pointer does not name becomes what f makes of it; right: the pointer names the right copy
+abbrev pub ofLeft : Bool → (List ℕ → List ℕ) → List ℕ → List ℕ
+ofLeft right f l = elim right [ true ↦ f l | false ↦ l ]
+
+abbrev pub ofRight : Bool → (List ℕ → List ℕ) → List ℕ → List ℕ
+ofRight right f r = elim right [ true ↦ r | false ↦ f r ]
+
+-- an operation applied; one that is not as its kind asks, and a copy that is unfit, change nothing
+abbrev pub operated : ℕ → ℕ → ℕ → List ℕ → List ℕ
+operated kind key amount w = applyRule kind key amount w .copy
+
+-- operation i of the log, applied
+abbrev pub logApplied : List ℕ → ℕ → List ℕ → List ℕ
+logApplied g i w =
+    elim (ltb i logRoom)
+    [ true ↦ operated (getD g (3 * i) 0) (getD g (3 * i + 1) 0) (getD g (3 * i + 2) 0) w | false ↦ w ]
+
+-- the words of one copy over those of another, as many as both have
+abbrev pub over : List ℕ → List ℕ → List ℕ
+over from to = take (length to) from ++ drop (length from) to
+
+-- the first of n operations taken off
+abbrev pub unlogged : ℕ → List ℕ → List ℕ
+unlogged n g = elim (leb n logRoom) [ true ↦ closeRule 3 (3 * (n - 1)) g | false ↦ g ]
+
+-- ---- one step
+
+-- a step that is made; its value says whether the call ended
+abbrev pub moved : Control → Slot → ℕ → Moved
+moved c s e = record { answer = answer.Done; value = bit (not (underway (c .phase))); control = c; slot = s; snapshot = e }
+
+abbrev pub refused : Answer → Control → Slot → ℕ → Moved
+refused a c s e = record { answer = a; value = 0; control = c; slot = s; snapshot = e }
+
+-- a poll that does not pass is held, and changes nothing; that of a try declines, and ends the call
+abbrev pub stopped : Job → Control → Slot → ℕ → Moved
+stopped Publish c s e = refused answer.Held c s e
+stopped Try c s e = record { answer = answer.Declined; value = 1; control = at Idle c; slot = s; snapshot = e }
+stopped TakeFirst c s e = refused answer.Held c s e
+stopped TakeSecond c s e = refused answer.Held c s e
+
+-- a poll, by whether it is held
+abbrev pub pollMove : Bool → ℕ → Control → Slot → ℕ → Moved
+pollMove held k c s e = elim held [ true ↦ stopped (c .job) c s e | false ↦ moved (at (polling c (k + 1)) c) s e ]
+
+abbrev pub lastPollMove : Bool → ℕ → Control → Slot → ℕ → Moved
+lastPollMove held k c s e =
+    elim held [ true ↦ refused answer.Held c s e | false ↦ moved (at (lastPolling (k + 1)) c) s e ]
+
+unfoldable pub stepAt : Phase → Control → Slot → ℕ → List ℕ → List ℕ → List ℕ → Lent Moved
+stepAt Idle c s e l r g = lent (refused answer.NotNow c s e) l r g
+stepAt Begin c s e l r g = lent (moved (at (beginning c) c) s e) l r g
+stepAt (Poll k) c s e l r g = lent (pollMove (holds s e) k c s e) l r g
+stepAt Copy c s e l r g =
+    let f = over (copyOf (c .right) l r) in
+    lent (moved (at (draining (c .swapped) (c .length)) (copied c)) s e) (ofLeft (c .right) f l) (ofRight (c .right) f r) g
+stepAt Drain c s e l r g =
+    let f = logApplied g 0 in
+    lent (moved (drained c) s e) (ofLeft (c .right) f l) (ofRight (c .right) f r) (unlogged (c .length) g)
+stepAt (Keep k) c s e l r g =
+    let f = logApplied g k in
+    lent (moved (at (keeping (c .length) (k + 1)) c) s e) (ofLeft (c .right) f l) (ofRight (c .right) f r) g
+stepAt Swap c s e l r g = lent (moved (snapping (swappedOver c) 0) s e) l r g
+stepAt (Snap k) c s e l r g = lent (moved (snapping c (k + 1)) s (seen s e)) l r g
+stepAt Null c s e l r g = lent (moved (at Lock (nulled c)) s e) l r g
+stepAt Lock c s e l r g = lent (moved (at (lastSnapping 0) c) s e) l r g
+stepAt (LastSnap k) c s e l r g = lent (moved (at (lastSnapping (k + 1)) c) s (seen s e)) l r g
+stepAt (LastPoll k) c s e l r g = lent (lastPollMove (holds s e) k c s e) l r g
+stepAt Finish c s e l r g =
+    lent (moved (at Gone (withLog 0 0 c)) (freed s) e) (ofLeft (c .right) zeros l) (ofRight (c .right) zeros r) (zeros g)
+stepAt Gone c s e l r g = lent (refused answer.Gone c s e) l r g
+
+-- the slot that a step looks at
+abbrev pub place : Phase → ℕ
+place Idle = 0
+place Begin = 0
+place (Poll k) = k
+place Copy = 0
+place Drain = 0
+place (Keep k) = 0
+place Swap = 0
+place (Snap k) = k
+place Null = 0
+place Lock = 0
+place (LastSnap k) = k
+place (LastPoll k) = k
+place Finish = 0
+place Gone = 0

@@ -1,0 +1,247 @@
+// The writer's calls that are made at once: append, and the beginnings of publish, try, flush and take. They look at slot 0.
+use crate::Moved;
+use crate::Opening;
+use crate::phases;
+use crate::slices;
+use crate::steps;
+use read::Control;
+use read::Job;
+use read::Phase;
+use read::Signs;
+use read::Slot;
+use read::Verdict;
+use read::admission;
+use read::guards;
+use read::judge;
+use table::Answer;
+ghost use mathlib.Core.Path.{_≡_};
+ghost use mathlib.Core.Bool.{true, not, _&&_, _||_};
+ghost use Prim.Native.Nat.{_+_, _%_, _^_};
+ghost use lib.Dec.{ltb, leb};
+ghost use Rattle.table.specs.Copy.{lawful};
+ghost use Rattle.read.specs.Machine.{isGone, logRoom};
+ghost use Rattle.read.specs.Handles.{withDue};
+ghost use Rattle.read.specs.Calls.{lent};
+ghost use Rattle.write.specs.Steps.{at, withJob, polling, beginning};
+ghost use Rattle.write.specs.Begins.{writerSigns, stepSigns, appended as appendedRule, appendOn, columnOf, begun as begunRule, value as valueRule, taking as takingRule, opened as openedRule, openOn};
+
+const ROOM: usize = 256;
+
+// ---- what speaks against a writer's call, by its column in the table of admissions
+
+fn is_gone(p: Phase) -> bool
+    ensures { λ r. ⌜ r ≡ isGone p ⌝ }
+{
+    match p {
+        Phase::Idle => false,
+        Phase::Begin => false,
+        Phase::Poll(_) => false,
+        Phase::Copy => false,
+        Phase::Drain => false,
+        Phase::Keep(_) => false,
+        Phase::Swap => false,
+        Phase::Snap(_) => false,
+        Phase::Null => false,
+        Phase::Lock => false,
+        Phase::LastSnap(_) => false,
+        Phase::LastPoll(_) => false,
+        Phase::Finish => false,
+        Phase::Gone => true,
+    }
+}
+
+fn writer_signs(column: usize, unlawful: bool, full: bool, c: Control, s: Slot) -> Signs
+    ensures { λ r. ⌜ r ≡ writerSigns column unlawful full c s ⌝ }
+{
+    let p = c.phase;
+    let d = s.due;
+    let g = s.guards;
+    let gone = is_gone(p);
+    let late = judge::either(admission::entry(p, column) == 6, guards::is_due(d));
+    let inside = guards::any_open(g);
+    Signs {
+        gone: gone,
+        no_slot: false,
+        operation: unlawful,
+        not_now: late,
+        locked: false,
+        guards_open: inside,
+        no_guard: false,
+        four_guards: false,
+        log_full: full,
+        slots_full: false,
+    }
+}
+
+// Step and run look at no slot to be admitted.
+pub(crate) fn step_signs(column: usize, c: Control) -> Signs
+    ensures { λ r. ⌜ r ≡ stepSigns column c ⌝ }
+{
+    let p = c.phase;
+    let gone = is_gone(p);
+    let e = admission::entry(p, column);
+    Signs {
+        gone: gone,
+        no_slot: false,
+        operation: false,
+        not_now: e == 6,
+        locked: false,
+        guards_open: false,
+        no_guard: false,
+        four_guards: false,
+        log_full: false,
+        slots_full: false,
+    }
+}
+
+// ---- append
+
+// Slot 0's epoch grows by 2.
+fn stirred(s: Slot) -> Slot
+    ensures { λ r. ⌜ r ≡ withDue ((s .epoch + 2) % 2 ^ 64) (s .due) s ⌝ }
+{
+    let g = s.guards;
+    let d = s.due;
+    Slot {
+        used: s.used,
+        epoch: std::num::wrapping_add_u64(s.epoch, 2),
+        guards: g,
+        due: d,
+    }
+}
+
+fn value(v: u64, c: Control, s: Slot, e: u64) -> Moved
+    ensures { λ r. ⌜ r ≡ valueRule v c s e ⌝ }
+{
+    Moved {
+        answer: Answer::Done,
+        value: v,
+        control: c,
+        slot: s,
+        snapshot: e,
+    }
+}
+
+// While `first` at once to the copy that the pointer does not name, and later into the log.
+fn appended(
+    kind: u64,
+    key: u64,
+    amount: u64,
+    c: Control,
+    s: Slot,
+    e: u64,
+    left: &mut [u64],
+    right: &mut [u64],
+    log: &mut [u64],
+) -> Moved
+    ensures { λ r. ⌜ lent r (now (left .exit)) (now (right .exit)) (now (log .exit)) ≡ appendedRule (c .first) kind key amount c s e (now (left .entry)) (now (right .entry)) (now (log .entry)) ⌝ }
+{
+    if c.first {
+        slices::operate(c.right, kind, key, amount, left, right);
+        return value(0, c, stirred(s), e);
+    }
+    let n = c.length;
+    if n < ROOM {
+        slices::enlog(log, n, kind, key, amount);
+        return value(0, phases::with_log(n + 1, c.swapped, c), s, e);
+    }
+    steps::refused(Answer::LogFull, c, s, e)
+}
+
+// The log has no room, and is what an append goes to.
+fn is_full(c: Control) -> bool
+    ensures { λ r. ⌜ r ≡ (not (c .first) && leb logRoom (c .length)) ⌝ }
+{
+    if c.first {
+        return false;
+    }
+    ROOM <= c.length
+}
+
+// Append: an operation, refused or made.
+pub fn append_on(
+    kind: u64,
+    key: u64,
+    amount: u64,
+    c: Control,
+    s: Slot,
+    e: u64,
+    left: &mut [u64],
+    right: &mut [u64],
+    log: &mut [u64],
+) -> Moved
+    ensures { λ r. ⌜ lent r (now (left .exit)) (now (right .exit)) (now (log .exit)) ≡ appendOn kind key amount c s e (now (left .entry)) (now (right .entry)) (now (log .entry)) ⌝ }
+{
+    let unlawful = !table::lawful(kind, key, amount);
+    let v = judge::smallest(writer_signs(7, unlawful, is_full(c), c, s));
+    match v {
+        Verdict::Admitted => appended(kind, key, amount, c, s, e, left, right, log),
+        Verdict::Refused(a) => steps::refused(a, c, s, e),
+    }
+}
+
+// ---- publish, try, flush, take
+
+fn column_of(o: Opening) -> usize
+    ensures { λ r. ⌜ r ≡ columnOf o ⌝ }
+{
+    match o {
+        Opening::Publish => 8,
+        Opening::Try => 9,
+        Opening::Flush => 10,
+        Opening::Take => 11,
+    }
+}
+
+fn begun(c: Control) -> Control
+    ensures { λ r. ⌜ r ≡ begunRule c ⌝ }
+{
+    phases::at(phases::beginning(c), phases::with_job(Job::Publish, c))
+}
+
+// Where a take begins: no publish where the first is made and the log is empty.
+fn taking(c: Control) -> Phase
+    ensures { λ r. ⌜ r ≡ takingRule c ⌝ }
+{
+    if judge::either(c.first, 0 < c.length) {
+        return Phase::Begin;
+    }
+    Phase::Null
+}
+
+fn opened(o: Opening, c: Control, s: Slot, e: u64) -> Moved
+    ensures { λ r. ⌜ r ≡ openedRule o c s e ⌝ }
+{
+    match o {
+        Opening::Publish => value(0, begun(c), s, e),
+        Opening::Try => value(
+            0,
+            phases::at(Phase::Poll(0), phases::with_job(Job::Try, c)),
+            s,
+            e,
+        ),
+        Opening::Flush => {
+            if c.swapped < c.length {
+                return value(1, begun(c), s, e);
+            }
+            value(0, c, s, e)
+        }
+        Opening::Take => value(
+            0,
+            phases::at(taking(c), phases::with_job(Job::TakeFirst, c)),
+            s,
+            e,
+        ),
+    }
+}
+
+// The beginning of a publish, a try, a flush or a take: refused, or made.
+pub fn open_on(o: Opening, c: Control, s: Slot, e: u64) -> Moved
+    ensures { λ r. ⌜ r ≡ openOn o c s e ⌝ }
+{
+    let v = judge::smallest(writer_signs(column_of(o), false, false, c, s));
+    match v {
+        Verdict::Admitted => opened(o, c, s, e),
+        Verdict::Refused(a) => steps::refused(a, c, s, e),
+    }
+}

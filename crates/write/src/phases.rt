@@ -1,0 +1,315 @@
+// The control part, by value: where the writer goes on when all before is done, and what it keeps.
+use read::Control;
+use read::Job;
+use read::Phase;
+use read::judge;
+ghost use mathlib.Core.Path.{_≡_};
+ghost use Prim.Native.Nat.{_+_, _-_};
+ghost use Rattle.read.specs.Machine.{underway as underwayRule};
+ghost use Rattle.write.specs.Steps.{keeping, draining as drainingRule, polled as polledRule, polling as pollingRule, beginning as beginningRule, published as publishedRule, nextJob, lastPolling, lastSnapping};
+ghost use Rattle.write.specs.Steps.{at as atRule, withJob, withLog, copied as copiedRule, swappedOver, nulled as nulledRule, ended as endedRule, snapping, drained as drainedRule};
+
+const SLOTS: usize = 16;
+
+const LAST: usize = 15;
+
+// ---- where the writer goes on
+
+// Behind operation `k` of `n`, which is kept.
+pub(crate) fn kept(n: usize, k: usize) -> Phase
+    ensures { λ r. ⌜ r ≡ keeping n (k + 1) ⌝ }
+{
+    if k < n {
+        let next = k + 1;
+        if next < n {
+            return Phase::Keep(next);
+        }
+    }
+    Phase::Swap
+}
+
+// With `s` operations before the swap index, of `n`.
+pub(crate) fn draining(s: usize, n: usize) -> Phase
+    ensures { λ r. ⌜ r ≡ drainingRule s n ⌝ }
+{
+    if 0 < s {
+        return Phase::Drain;
+    }
+    if 0 < n {
+        return Phase::Keep(0);
+    }
+    Phase::Swap
+}
+
+// Behind the polls.
+fn polled(c: Control) -> Phase
+    ensures { λ r. ⌜ r ≡ polledRule c ⌝ }
+{
+    if c.first {
+        return Phase::Swap;
+    }
+    if c.second {
+        return Phase::Copy;
+    }
+    draining(c.swapped, c.length)
+}
+
+// Where slot `k` is polled next.
+pub(crate) fn polling(c: Control, k: usize) -> Phase
+    ensures { λ r. ⌜ r ≡ pollingRule c k ⌝ }
+{
+    if k < SLOTS {
+        return Phase::Poll(k);
+    }
+    polled(c)
+}
+
+// Behind the poll of slot `k`.
+pub(crate) fn passed(c: Control, k: usize) -> Phase
+    ensures { λ r. ⌜ r ≡ pollingRule c (k + 1) ⌝ }
+{
+    if k < LAST {
+        return Phase::Poll(k + 1);
+    }
+    polled(c)
+}
+
+// A publish that is not the first polls first.
+pub(crate) fn beginning(c: Control) -> Phase
+    ensures { λ r. ⌜ r ≡ beginningRule c ⌝ }
+{
+    if c.first {
+        return Phase::Swap;
+    }
+    Phase::Poll(0)
+}
+
+// Behind the last snapshot of a publish that leaves `n` operations in the log.
+fn published(j: Job, n: usize) -> Phase
+    ensures { λ r. ⌜ r ≡ publishedRule j n ⌝ }
+{
+    match j {
+        Job::Publish => Phase::Idle,
+        Job::Try => Phase::Idle,
+        Job::TakeFirst => {
+            if 0 < n {
+                return Phase::Begin;
+            }
+            Phase::Null
+        }
+        Job::TakeSecond => Phase::Null,
+    }
+}
+
+fn next_job(j: Job) -> Job
+    ensures { λ r. ⌜ r ≡ nextJob j ⌝ }
+{
+    match j {
+        Job::Publish => Job::Publish,
+        Job::Try => Job::Try,
+        Job::TakeFirst => Job::TakeSecond,
+        Job::TakeSecond => Job::TakeSecond,
+    }
+}
+
+// Where take polls slot `k` next.
+pub(crate) fn last_polling(k: usize) -> Phase
+    ensures { λ r. ⌜ r ≡ lastPolling k ⌝ }
+{
+    if k < SLOTS {
+        return Phase::LastPoll(k);
+    }
+    Phase::Finish
+}
+
+// Behind take's poll of slot `k`.
+pub(crate) fn last_passed(k: usize) -> Phase
+    ensures { λ r. ⌜ r ≡ lastPolling (k + 1) ⌝ }
+{
+    if k < LAST {
+        return Phase::LastPoll(k + 1);
+    }
+    Phase::Finish
+}
+
+// Behind take's snapshot of slot `k`.
+pub(crate) fn last_seen(k: usize) -> Phase
+    ensures { λ r. ⌜ r ≡ lastSnapping (k + 1) ⌝ }
+{
+    if k < LAST {
+        return Phase::LastSnap(k + 1);
+    }
+    Phase::LastPoll(0)
+}
+
+// A call of the writer is under way.
+pub(crate) fn underway(c: Control) -> bool
+    ensures { λ r. ⌜ r ≡ underwayRule (c .phase) ⌝ }
+{
+    let p = c.phase;
+    match p {
+        Phase::Idle => false,
+        Phase::Begin => true,
+        Phase::Poll(_) => true,
+        Phase::Copy => true,
+        Phase::Drain => true,
+        Phase::Keep(_) => true,
+        Phase::Swap => true,
+        Phase::Snap(_) => true,
+        Phase::Null => true,
+        Phase::Lock => true,
+        Phase::LastSnap(_) => true,
+        Phase::LastPoll(_) => true,
+        Phase::Finish => true,
+        Phase::Gone => false,
+    }
+}
+
+// ---- the control part
+
+// Another phase, with the lock that fits it.
+pub(crate) fn at(p: Phase, c: Control) -> Control
+    ensures { λ r. ⌜ r ≡ atRule p c ⌝ }
+{
+    let lock = judge::locks(p);
+    let job = c.job;
+    Control {
+        right: c.right,
+        null: c.null,
+        lock: lock,
+        first: c.first,
+        second: c.second,
+        phase: p,
+        job: job,
+        length: c.length,
+        swapped: c.swapped,
+    }
+}
+
+pub(crate) fn with_job(job: Job, c: Control) -> Control
+    ensures { λ r. ⌜ r ≡ withJob job c ⌝ }
+{
+    let phase = c.phase;
+    Control {
+        right: c.right,
+        null: c.null,
+        lock: c.lock,
+        first: c.first,
+        second: c.second,
+        phase: phase,
+        job: job,
+        length: c.length,
+        swapped: c.swapped,
+    }
+}
+
+// The log holds `n` operations, of which `s` stand in the copy that is read.
+pub(crate) fn with_log(n: usize, s: usize, c: Control) -> Control
+    ensures { λ r. ⌜ r ≡ withLog n s c ⌝ }
+{
+    let phase = c.phase;
+    let job = c.job;
+    Control {
+        right: c.right,
+        null: c.null,
+        lock: c.lock,
+        first: c.first,
+        second: c.second,
+        phase: phase,
+        job: job,
+        length: n,
+        swapped: s,
+    }
+}
+
+pub(crate) fn copied(c: Control) -> Control
+    ensures { λ r. ⌜ r ≡ copiedRule c ⌝ }
+{
+    let phase = c.phase;
+    let job = c.job;
+    Control {
+        right: c.right,
+        null: c.null,
+        lock: c.lock,
+        first: c.first,
+        second: false,
+        phase: phase,
+        job: job,
+        length: c.length,
+        swapped: c.swapped,
+    }
+}
+
+// The pointer changes side, and the whole log stands in the copy that is read.
+pub(crate) fn swapped_over(c: Control) -> Control
+    ensures { λ r. ⌜ r ≡ swappedOver c ⌝ }
+{
+    let phase = c.phase;
+    let job = c.job;
+    Control {
+        right: !c.right,
+        null: c.null,
+        lock: c.lock,
+        first: false,
+        second: c.second,
+        phase: phase,
+        job: job,
+        length: c.length,
+        swapped: c.length,
+    }
+}
+
+pub(crate) fn nulled(c: Control) -> Control
+    ensures { λ r. ⌜ r ≡ nulledRule c ⌝ }
+{
+    let phase = c.phase;
+    let job = c.job;
+    Control {
+        right: c.right,
+        null: true,
+        lock: c.lock,
+        first: c.first,
+        second: c.second,
+        phase: phase,
+        job: job,
+        length: c.length,
+        swapped: c.swapped,
+    }
+}
+
+// A publish ends.
+fn ended(c: Control) -> Control
+    ensures { λ r. ⌜ r ≡ endedRule c ⌝ }
+{
+    let j = c.job;
+    at(published(j, c.length), with_job(next_job(j), c))
+}
+
+// Behind the snapshot of slot `k`.
+pub(crate) fn after_snap(c: Control, k: usize) -> Control
+    ensures { λ r. ⌜ r ≡ snapping c (k + 1) ⌝ }
+{
+    if k < LAST {
+        return at(Phase::Snap(k + 1), c);
+    }
+    ended(c)
+}
+
+// One less, or none.
+fn less(n: usize) -> usize
+    ensures { λ r. ⌜ r ≡ n - 1 ⌝ }
+{
+    if n == 0 {
+        return 0;
+    }
+    n - 1
+}
+
+// The first operation is taken off the log.
+pub(crate) fn drained(c: Control) -> Control
+    ensures { λ r. ⌜ r ≡ drainedRule c ⌝ }
+{
+    let n = less(c.length);
+    let s = less(c.swapped);
+    at(draining(s, n), with_log(n, s, c))
+}

@@ -1,0 +1,130 @@
+// The lent words: what a step or an append does to the copy that the pointer does not name, and to the log.
+ghost use mathlib.Core.Path.{_≡_};
+ghost use Prim.Native.Nat.{_<_};
+ghost use lib.ListN.{getD, set};
+ghost use Rattle.table.specs.Copy.{zeros};
+ghost use Rattle.read.specs.Handles.{copyOf};
+ghost use Rattle.write.specs.Steps.{ofLeft, ofRight, operated, logApplied, over, unlogged};
+ghost use Rattle.write.specs.Begins.{logged};
+
+const ROOM: usize = 256;
+
+// A word of the log, or 0 behind its end.
+fn fetch(log: &[u64], i: usize) -> u64
+    ensures { λ r. ⌜ r ≡ getD (now (log .entry)) i 0 ⌝ }
+{
+    if i < log.len() {
+        return log[i];
+    }
+    0
+}
+
+// Operation `i` of the log, applied.
+fn apply_logged(w: &mut [u64], log: &[u64], i: usize)
+    ensures { λ _. ⌜ now (w .exit) ≡ logApplied (now (log .entry)) i (now (w .entry)) ⌝ }
+{
+    if i < ROOM {
+        let at = 3 * i;
+        let kind = fetch(log, at);
+        let key = fetch(log, at + 1);
+        let amount = fetch(log, at + 2);
+        table::apply(w, kind, key, amount);
+    }
+}
+
+// The words of one copy over those of another, as many as both have.
+fn copy_over(from: &[u64], to: &mut [u64])
+    ensures { λ _. ⌜ now (to .exit) ≡ over (now (from .entry)) (now (to .entry)) ⌝ }
+{
+    let mut i = 0;
+    while i < to.len() {
+        if from.len() <= i {
+            return;
+        }
+        to[i] = from[i];
+        i += 1;
+    }
+}
+
+// ---- on the copy that the pointer does not name; `side`: it names the right one
+
+pub(crate) fn operate(
+    side: bool,
+    kind: u64,
+    key: u64,
+    amount: u64,
+    left: &mut [u64],
+    right: &mut [u64],
+)
+    ensures { λ _. ⌜ (now (left .exit) ≡ ofLeft side (operated kind key amount) (now (left .entry))) × (now (right .exit) ≡ ofRight side (operated kind key amount) (now (right .entry))) ⌝ }
+{
+    if side {
+        table::apply(left, kind, key, amount);
+    } else {
+        table::apply(right, kind, key, amount);
+    }
+}
+
+pub(crate) fn replay(side: bool, i: usize, left: &mut [u64], right: &mut [u64], log: &[u64])
+    ensures { λ _. ⌜ (now (left .exit) ≡ ofLeft side (logApplied (now (log .entry)) i) (now (left .entry))) × (now (right .exit) ≡ ofRight side (logApplied (now (log .entry)) i) (now (right .entry))) ⌝ }
+{
+    if side {
+        apply_logged(left, log, i);
+    } else {
+        apply_logged(right, log, i);
+    }
+}
+
+pub(crate) fn synchronize(side: bool, left: &mut [u64], right: &mut [u64])
+    ensures { λ _. ⌜ (now (left .exit) ≡ ofLeft side (over (copyOf side (now (left .entry)) (now (right .entry)))) (now (left .entry))) × (now (right .exit) ≡ ofRight side (over (copyOf side (now (left .entry)) (now (right .entry)))) (now (right .entry))) ⌝ }
+{
+    if side {
+        copy_over(&right[..], left);
+    } else {
+        copy_over(&left[..], right);
+    }
+}
+
+pub(crate) fn erase(side: bool, left: &mut [u64], right: &mut [u64])
+    ensures { λ _. ⌜ (now (left .exit) ≡ ofLeft side zeros (now (left .entry))) × (now (right .exit) ≡ ofRight side zeros (now (right .entry))) ⌝ }
+{
+    if side {
+        table::zero(left);
+    } else {
+        table::zero(right);
+    }
+}
+
+// ---- on the log
+
+// The first of `n` operations taken off.
+pub(crate) fn unlog(log: &mut [u64], n: usize)
+    ensures { λ _. ⌜ now (log .exit) ≡ unlogged n (now (log .entry)) ⌝ }
+{
+    if n <= ROOM {
+        if n == 0 {
+            table::close_gap(log, 3, 0);
+        } else {
+            table::close_gap(log, 3, 3 * (n - 1));
+        }
+    }
+}
+
+fn put(log: &mut [u64], i: usize, x: u64)
+    ensures { λ _. ⌜ now (log .exit) ≡ set (now (log .entry)) i x ⌝ }
+{
+    if i < log.len() {
+        log[i] = x;
+    }
+}
+
+// An operation behind `n` others.
+pub(crate) fn enlog(log: &mut [u64], n: usize, kind: u64, key: u64, amount: u64)
+    requires { ⌜ n < 256 ⌝ }
+    ensures { λ _. ⌜ now (log .exit) ≡ logged n kind key amount (now (log .entry)) ⌝ }
+{
+    let at = 3 * n;
+    put(log, at, kind);
+    put(log, at + 1, key);
+    put(log, at + 2, amount);
+}
