@@ -1,0 +1,10 @@
+-- The laws of the player.
+pub mod Numbers
+pub mod Records
+pub mod Rule
+pub mod Due
+pub mod StepsDue
+pub mod Plays
+pub mod Determined
+pub mod Ends
+pub mod Wrong

@@ -1,0 +1,71 @@
+-- Each result is the rule's at the call that the match found.
+use borrow.Author.Needs.{needs}
+use mathlib.Core.Path.{sym, _∙_}
+use Rattle.play.specs.Turns.{absent}
+use Rattle.play.proofs.turns.absent.Statement.{statement}
+use Rattle.play.proofs.turns.absent.Tie as tie
+
+enum-told : tie.Need-enum-told
+enum-told c = search needs
+
+waits-requires : tie.Need-waits-requires
+waits-requires c κs = search needs
+
+enum-told-2 : tie.Need-enum-told-2
+enum-told-2 c = search needs
+
+enum-told-3 : tie.Need-enum-told-3
+enum-told-3 c = search needs
+
+enum-told-4 : tie.Need-enum-told-4
+enum-told-4 c = search needs
+
+enum-told-5 : tie.Need-enum-told-5
+enum-told-5 c = search needs
+
+enum-told-6 : tie.Need-enum-told-6
+enum-told-6 c = search needs
+
+returns : tie.Need-returns
+returns c =
+    let a = c .before .before .before .before .args in
+    rw (c .before .before .enum-told .given .1, sym (c .before .waits .ensures) ∙ c .if1 .taken, absent)
+
+returns-2 : tie.Need-returns-2
+returns-2 c =
+    let a = c .before .before .before .before .args in
+    rw (c .before .before .enum-told .given .1, sym (c .before .waits .ensures) ∙ c .if1 .left, absent)
+
+returns-3 : tie.Need-returns-3
+returns-3 c = search needs
+
+returns-4 : tie.Need-returns-4
+returns-4 c = search needs
+
+returns-5 : tie.Need-returns-5
+returns-5 c = search needs
+
+returns-6 : tie.Need-returns-6
+returns-6 c = search needs
+
+returns-7 : tie.Need-returns-7
+returns-7 c = search needs
+
+pub absent-spec : {M : Type 1} → statement M
+absent-spec =
+    tie.close
+    (tie.spec
+    enum-told
+    waits-requires
+    enum-told-2
+    enum-told-3
+    enum-told-4
+    enum-told-5
+    enum-told-6
+    returns
+    returns-2
+    returns-3
+    returns-4
+    returns-5
+    returns-6
+    returns-7)

@@ -1,0 +1,199 @@
+// The schedule file: a mark, a version, and records of 20 bytes, each a call.
+use crate::Flaw;
+use read::Handle;
+use write::Call;
+use write::Opening;
+ghost use mathlib.Core.Path.{_≡_};
+ghost use Prim.Native.Nat.{_+_, _*_, _^_, _≤_, _<_};
+ghost use lib.ListN.{length, getD};
+ghost use Rattle.play.specs.Schedule.{numberAt, count as countRule, startOf, marked as markedRule, versionOf, torn as tornRule, unknownAt, firstUnknown, handleOf, openingOf, callOf, decoded};
+ghost use Rattle.play.specs.Player.{flaw, flawOf};
+
+const HEAD: usize = 5;
+
+const RECORD: usize = 20;
+
+fn byte(s: &[u8], at: usize) -> u64
+    requires { ⌜ at < length (now s) ⌝ }
+    ensures { λ r. ⌜ (r ≡ numberAt 1 (now (s .entry)) at) × (r < 256) ⌝ }
+{
+    s[at] as u64
+}
+
+// A number of two bytes, the lowest first.
+fn two(s: &[u8], at: usize) -> u64
+    requires { ⌜ at + 2 ≤ length (now s) ⌝ }
+    ensures { λ r. ⌜ (r ≡ numberAt 2 (now (s .entry)) at) × (r < 2 ^ 16) ⌝ }
+{
+    byte(s, at) + 256 * byte(s, at + 1)
+}
+
+fn four(s: &[u8], at: usize) -> u64
+    requires { ⌜ at + 4 ≤ length (now s) ⌝ }
+    ensures { λ r. ⌜ (r ≡ numberAt 4 (now (s .entry)) at) × (r < 2 ^ 32) ⌝ }
+{
+    two(s, at) + 65536 * two(s, at + 2)
+}
+
+fn eight(s: &[u8], at: usize) -> u64
+    requires { ⌜ at + 8 ≤ length (now s) ⌝ }
+    ensures { λ r. ⌜ r ≡ numberAt 8 (now (s .entry)) at ⌝ }
+{
+    four(s, at) + 4294967296 * four(s, at + 4)
+}
+
+// How many whole records there are.
+pub fn count(s: &[u8]) -> usize
+    ensures { λ r. ⌜ r ≡ countRule (now (s .entry)) ⌝ }
+{
+    if s.len() < HEAD {
+        return 0;
+    }
+    (s.len() - HEAD) / RECORD
+}
+
+fn handle_of(call: u64, guard: usize, key: u64) -> Handle
+    ensures { λ r. ⌜ r ≡ handleOf call guard key ⌝ }
+{
+    if call == 2 {
+        return Handle::Drop;
+    }
+    if call == 3 {
+        return Handle::Enter;
+    }
+    if call == 4 {
+        return Handle::GoOn;
+    }
+    if call == 5 {
+        return Handle::Release(guard);
+    }
+    if call == 6 {
+        return Handle::LookUp(guard, key);
+    }
+    Handle::WasDropped
+}
+
+fn opening_of(call: u64) -> Opening
+    ensures { λ r. ⌜ r ≡ openingOf call ⌝ }
+{
+    if call == 9 {
+        return Opening::Publish;
+    }
+    if call == 10 {
+        return Opening::Try;
+    }
+    if call == 11 {
+        return Opening::Flush;
+    }
+    Opening::Take
+}
+
+// A call by its number.
+fn call_of(call: u64, slot: usize, guard: usize, kind: u64, key: u64, amount: u64) -> Call
+    ensures { λ r. ⌜ r ≡ callOf call slot guard kind key amount ⌝ }
+{
+    if call == 1 {
+        return Call::Create;
+    }
+    if call < 8 {
+        let h = handle_of(call, guard, key);
+        return Call::On(slot, h);
+    }
+    if call == 8 {
+        return Call::Append(kind, key, amount);
+    }
+    if call < 13 {
+        let o = opening_of(call);
+        return Call::Open(o);
+    }
+    if call == 13 {
+        return Call::Step;
+    }
+    Call::Run
+}
+
+// Record `i` of a schedule that has it.
+pub(crate) fn decode(s: &[u8], i: usize) -> Call
+    requires { ⌜ startOf i + 20 ≤ length (now s) ⌝ }
+    ensures { λ r. ⌜ r ≡ decoded (now (s .entry)) i ⌝ }
+{
+    let at = HEAD + RECORD * i;
+    call_of(
+        byte(s, at),
+        byte(s, at + 1) as usize,
+        byte(s, at + 2) as usize,
+        byte(s, at + 3),
+        eight(s, at + 4),
+        eight(s, at + 12),
+    )
+}
+
+fn marked(s: &[u8]) -> bool
+    ensures { λ r. ⌜ r ≡ markedRule (now (s .entry)) ⌝ }
+{
+    if s.len() < HEAD {
+        return false;
+    }
+    if s[0] != 76 {
+        return false;
+    }
+    if s[1] != 82 {
+        return false;
+    }
+    s[2] == 84
+}
+
+// The first of `n` records whose call is none, or `n`.
+fn first_unknown(s: &[u8], n: usize) -> usize
+    requires { ⌜ startOf n ≤ length (now s) ⌝ }
+    ensures { λ r. ⌜ r ≡ firstUnknown (now (s .entry)) n ⌝ }
+{
+    let mut i = 0;
+    while i < n {
+        let call = s[HEAD + RECORD * i];
+        if call < 1 {
+            return i;
+        }
+        if 14 < call {
+            return i;
+        }
+        i += 1;
+    }
+    i
+}
+
+// What is wrong with a schedule, but for the output's room.
+pub fn check(s: &[u8]) -> Flaw
+    ensures { λ r. ⌜ r ≡ flawOf (now (s .entry)) ⌝ }
+{
+    if !marked(s) {
+        return Flaw {
+            answer: 21,
+            place: 0,
+        };
+    }
+    if two(s, 3) != 1 {
+        return Flaw {
+            answer: 22,
+            place: 0,
+        };
+    }
+    let n = count(s);
+    if (s.len() - HEAD) % RECORD != 0 {
+        return Flaw {
+            answer: 23,
+            place: n,
+        };
+    }
+    let i = first_unknown(s, n);
+    if i < n {
+        return Flaw {
+            answer: 24,
+            place: i,
+        };
+    }
+    Flaw {
+        answer: 0,
+        place: n,
+    }
+}

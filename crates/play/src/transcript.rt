@@ -1,0 +1,47 @@
+// A transcript's entries: an answer in one byte, and a value in eight.
+use table::Answer;
+ghost use mathlib.Core.Path.{_≡_};
+ghost use mathlib.Core.List.{_++_};
+ghost use Prim.Native.Nat.{_+_, _≤_};
+ghost use lib.ListN.{length, take, drop};
+ghost use Rattle.table.specs.Answers.{number as numberRule};
+ghost use Rattle.play.specs.Player.{entryOf};
+
+pub fn number(a: Answer) -> u8
+    ensures { λ r. ⌜ r ≡ numberRule a ⌝ }
+{
+    match a {
+        Answer::Done => 0,
+        Answer::Length => 1,
+        Answer::Broken => 2,
+        Answer::Gone => 3,
+        Answer::NoSlot => 4,
+        Answer::Operation => 5,
+        Answer::NotNow => 6,
+        Answer::Locked => 7,
+        Answer::GuardsOpen => 8,
+        Answer::NoGuard => 9,
+        Answer::FourGuards => 10,
+        Answer::LogFull => 11,
+        Answer::SlotsFull => 12,
+        Answer::Held => 13,
+        Answer::Declined => 14,
+        Answer::None => 15,
+    }
+}
+
+// The entry at byte `at` of the output.
+pub(crate) fn put(out: &mut [u8], at: usize, answer: u8, value: u64)
+    requires { ⌜ at + 9 ≤ length (now out) ⌝ }
+    ensures { λ _. ⌜ now (out .exit) ≡ take at (now (out .entry)) ++ (entryOf answer value ++ drop (at + 9) (now (out .entry))) ⌝ }
+{
+    out[at] = answer;
+    out[at + 1] = (value % 256) as u8;
+    out[at + 2] = (value / 256 % 256) as u8;
+    out[at + 3] = (value / 256 / 256 % 256) as u8;
+    out[at + 4] = (value / 256 / 256 / 256 % 256) as u8;
+    out[at + 5] = (value / 256 / 256 / 256 / 256 % 256) as u8;
+    out[at + 6] = (value / 256 / 256 / 256 / 256 / 256 % 256) as u8;
+    out[at + 7] = (value / 256 / 256 / 256 / 256 / 256 / 256 % 256) as u8;
+    out[at + 8] = (value / 256 / 256 / 256 / 256 / 256 / 256 / 256 % 256) as u8;
+}
