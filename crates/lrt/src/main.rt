@@ -1,0 +1,195 @@
+// Plays a schedule, or shows its records one by one with what came of each:
+//
+//   lrt play FILE [NAME]
+//   lrt show FILE [NAME]
+//
+// FILE is a packed schedule, or - for standard input. A program has no exit status here, so where NAME is given, which
+// is what messages then call the file, a digit goes to descriptor 3: 0 well, 1 the file is refused, 2 anything else.
+mod page;
+mod show;
+
+use libc::STDERR_FILENO;
+use libc::STDIN_FILENO;
+use libc::STDOUT_FILENO;
+
+// 100,000 records, and one byte more to see that a file has no more.
+const MOST: usize = 2000005;
+
+const SCHEDULE: usize = 2000006;
+
+const TRANSCRIPT: usize = 900000;
+
+const WELL: u8 = b'0';
+
+const REFUSED: u8 = b'1';
+
+const FAILED: u8 = b'2';
+
+const STATUS_FILENO: i32 = 3;
+
+struct Got {
+    whole: bool,
+    count: usize,
+}
+
+fn say(text: &[u8]) {
+    io::write_all(STDERR_FILENO, text);
+}
+
+// What went wrong with a file, by errno.
+fn fail(name: &[u8]) {
+    say(b"lrt: ");
+    os::fail(name);
+}
+
+// The first `n` bytes, or all where there are fewer.
+fn start(s: &[u8], n: usize) -> &[u8] {
+    if n < s.len() {
+        return &s[..n];
+    }
+    s
+}
+
+// Reads to the end of the input, or until the buffer is full.
+fn read_all(fd: i32, buf: &mut [u8]) -> Got {
+    let mut n = 0;
+    while n < buf.len() {
+        let got = libc::read(fd, &mut buf[n..]);
+        if got < 0 {
+            return Got {
+                whole: false,
+                count: n,
+            };
+        }
+        let more = io::count(got, &buf[n..]);
+        if more == 0 {
+            break;
+        }
+        n += more;
+    }
+    Got {
+        whole: true,
+        count: n,
+    }
+}
+
+// What refuses a file. The output is never too short, since it has room for every record that the schedule has.
+fn reason(answer: u64) {
+    match answer {
+        21 => say(b"mark (a schedule begins with LRT and a version)"),
+        22 => say(b"version (only 1 is known)"),
+        23 => say(b"torn record (a record has 20 bytes)"),
+        24 => say(b"a call not 1 to 14"),
+        _ => say(b"output too short"),
+    }
+}
+
+// The line for a file that is refused. Records count from 1; a mark or a version is wrong before the first.
+fn refuse(name: &[u8], answer: u64, place: usize) {
+    say(b"lrt: ");
+    say(name);
+    say(b": refused with ");
+    io::print_decimal(STDERR_FILENO, answer);
+    say(b", ");
+    reason(answer);
+    if answer < 23 {
+        say(b", before record ");
+    } else {
+        say(b", at record ");
+    }
+    io::print_decimal(STDERR_FILENO, std::num::wrapping_add_u64(place as u64, 1));
+    say(b"\n");
+}
+
+fn write(schedule: &[u8], transcript: &[u8], is_show: bool) -> bool {
+    if is_show {
+        return show::all(STDOUT_FILENO, schedule, transcript);
+    }
+    io::write_all(STDOUT_FILENO, transcript)
+}
+
+fn run(
+    buf: &mut [u8; SCHEDULE],
+    out: &mut [u8; TRANSCRIPT],
+    name: &[u8],
+    fd: i32,
+    is_show: bool,
+) -> u8 {
+    let got = read_all(fd, buf);
+    if !got.whole {
+        fail(name);
+        return FAILED;
+    }
+    if got.count > MOST {
+        say(b"lrt: ");
+        say(name);
+        say(b": over 100,000 records, which is all that this program holds\n");
+        return FAILED;
+    }
+    let schedule = start(buf, got.count);
+    let played = play::lrt_play(schedule, out);
+    if played.answer != 0 {
+        let flaw = play::schedule::check(schedule);
+        refuse(name, played.answer, flaw.place);
+        return REFUSED;
+    }
+    let transcript = start(out, played.written);
+    if write(schedule, transcript, is_show) {
+        return WELL;
+    }
+    fail(b"standard output");
+    FAILED
+}
+
+fn open_and_run(name: &[u8], is_show: bool) -> u8 {
+    let mut path = io::buffer();
+    let n = os::arg(2, &mut path);
+    if os::errno() != 0 {
+        fail(b"FILE");
+        return FAILED;
+    }
+    let mut fd = STDIN_FILENO;
+    if !check::same(&path[..n], b"-") {
+        fd = os::open_read(&path[..n]);
+    }
+    if fd < 0 {
+        fail(name);
+        return FAILED;
+    }
+    let mut buf = [0u8; SCHEDULE];
+    let mut out = [0u8; TRANSCRIPT];
+    let status = run(&mut buf, &mut out, name, fd, is_show);
+    libc::close(fd);
+    status
+}
+
+// With the last argument as what messages call the file.
+fn named(is_show: bool) -> u8 {
+    let mut i = 2;
+    if os::arg_count() > 3 {
+        i = 3;
+    }
+    let mut name = io::buffer();
+    let n = os::arg(i, &mut name);
+    open_and_run(&name[..n], is_show)
+}
+
+fn by_word() -> u8 {
+    let mut word = [0u8; 4];
+    let n = os::arg(1, &mut word);
+    if check::same(&word[..n], b"play") {
+        return named(false);
+    }
+    if check::same(&word[..n], b"show") {
+        return named(true);
+    }
+    say(b"lrt: wanted: play FILE, or show FILE\n");
+    FAILED
+}
+
+fn main() {
+    let status = by_word();
+    if os::arg_count() > 3 {
+        io::write_all(STATUS_FILENO, &[status]);
+    }
+}
