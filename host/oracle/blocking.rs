@@ -1,0 +1,222 @@
+//! Where the crate waits: two threads, each case beside the same calls in our player.
+//!
+//! "Waits" is seen by a time limit: the crate's call has not come back after a while, and comes back once the guard is
+//! released. The limits are far apart, so that a busy machine does not decide the test.
+
+use crate::world::{Change, Counts};
+use lrt::Player;
+use reference::Record;
+use std::sync::mpsc::{channel, Receiver, RecvTimeoutError};
+use std::thread;
+use std::time::Duration;
+
+const WAITS: Duration = Duration::from_millis(300);
+const COMES: Duration = Duration::from_secs(20);
+
+/// Makes a call on a thread of its own, and gives word when it is back.
+fn apart<T: Send + 'static>(call: impl FnOnce() -> T + Send + 'static) -> Receiver<T> {
+    let (send, back) = channel();
+    thread::spawn(move || {
+        let _ = send.send(call());
+    });
+    back
+}
+
+fn waits<T>(back: &Receiver<T>, what: &str) -> Result<(), String> {
+    match back.recv_timeout(WAITS) {
+        Err(RecvTimeoutError::Timeout) => Ok(()),
+        Err(RecvTimeoutError::Disconnected) => Err(format!("{what} panicked")),
+        Ok(_) => Err(format!("{what} did not wait")),
+    }
+}
+
+fn comes<T>(back: &Receiver<T>, what: &str) -> Result<T, String> {
+    back.recv_timeout(COMES).map_err(|_| format!("{what} did not come back"))
+}
+
+/// A record of ours as (call, slot, kind, key, amount), and the answer and value that it must have.
+type Call = (u8, u8, u8, u64, u64);
+type Wanted = (u8, u64);
+
+fn ours(player: Player, calls: &[(Call, Wanted)]) -> Result<(), String> {
+    let records: Vec<Record> = calls
+        .iter()
+        .map(|&((call, slot, kind, key, amount), _)| Record { call, slot, guard: 0, kind, key, amount })
+        .collect();
+    let mut out = vec![0; records.len() * reference::ENTRY];
+    let played = player(&reference::schedule(&records), &mut out);
+    if played != (0, out.len() as u64) {
+        return Err(format!("our player said {played:?}"));
+    }
+    for (at, (entry, (_, wanted))) in out.chunks_exact(reference::ENTRY).zip(calls).enumerate() {
+        let given = (entry[0], u64::from_le_bytes(entry[1..].try_into().unwrap()));
+        if given != *wanted {
+            let line = common::line(&records[at]);
+            return Err(format!("our record {} ({line}) gave {given:?}, wanted {wanted:?}", at + 1));
+        }
+    }
+    Ok(())
+}
+
+const CREATE: Call = (1, 0, 0, 0, 0);
+const ENTER: Call = (3, 1, 0, 0, 0);
+const GO_ON: Call = (4, 1, 0, 0, 0);
+const RELEASE: Call = (5, 1, 0, 0, 0);
+const SEVEN: Call = (6, 1, 0, 7, 0);
+const DROPPED: Call = (7, 1, 0, 0, 0);
+const ADD: Call = (8, 0, 1, 7, 3);
+const PUBLISH: Call = (9, 0, 0, 0, 0);
+const TAKE: Call = (12, 0, 0, 0, 0);
+const RUN: Call = (14, 0, 0, 0, 0);
+
+/// A guard lets one publish through and the next one waits for it. While that one waits it keeps the lock, so that
+/// making a handle waits too.
+fn publish(player: Player) -> Result<(), String> {
+    let (mut writer, reader) = left_right::new::<Counts, Change>();
+    let factory = reader.factory();
+    writer.publish();
+    let guard = reader.enter().ok_or("no guard")?;
+    writer.append(Change::Add(7, 3));
+
+    let first = apart(move || {
+        writer.publish();
+        writer
+    });
+    let mut writer = comes(&first, "the publish after the guard")?;
+    if !guard.pairs.is_empty() {
+        return Err("the guard's table changed".to_string());
+    }
+
+    let second = apart(move || {
+        writer.publish();
+        writer
+    });
+    waits(&second, "the second publish after the guard")?;
+    let handle = apart(move || factory.handle());
+    waits(&handle, "a new handle while a publish waits")?;
+    if !guard.pairs.is_empty() {
+        return Err("the guard's table changed".to_string());
+    }
+
+    drop(guard);
+    let writer = comes(&second, "the publish, after the release")?;
+    let handle = comes(&handle, "the new handle, after the release")?;
+    for reader in [&reader, &handle] {
+        let count = reader.enter().map(|guard| guard.pairs.get(&7).copied());
+        if count != Some(Some(3)) {
+            return Err(format!("after the publish the count is {count:?}"));
+        }
+    }
+    drop(writer);
+
+    ours(
+        player,
+        &[
+            (CREATE, (0, 1)),
+            (PUBLISH, (0, 0)),
+            (RUN, (0, 17)),
+            (ENTER, (0, 0)),
+            (GO_ON, (0, 0)),
+            (ADD, (0, 0)),
+            (PUBLISH, (0, 0)),
+            (RUN, (0, 35)),
+            (SEVEN, (0, 0)),
+            (PUBLISH, (0, 0)),
+            (RUN, (13, 1)),
+            (CREATE, (7, 0)),
+            (SEVEN, (0, 0)),
+            (RELEASE, (0, 0)),
+            (RUN, (0, 33)),
+            (CREATE, (0, 2)),
+            (ENTER, (0, 0)),
+            (GO_ON, (0, 0)),
+            (SEVEN, (0, 3)),
+        ],
+    )
+}
+
+/// Take waits for a reader that came after the last publish, and that reader sees null meanwhile.
+fn take(player: Player) -> Result<(), String> {
+    let (mut writer, reader) = left_right::new::<Counts, Change>();
+    writer.append(Change::Add(7, 3));
+    writer.publish();
+    let guard = reader.enter().ok_or("no guard")?;
+    let taken = apart(move || Counts::clone(&writer.take()));
+    waits(&taken, "take under a guard")?;
+    if !reader.was_dropped() || reader.enter().is_some() {
+        return Err("take waits, and its reader sees no null".to_string());
+    }
+    if guard.pairs.get(&7) != Some(&3) {
+        return Err("the guard's table changed".to_string());
+    }
+    drop(guard);
+    let handed = comes(&taken, "take, after the release")?;
+    if handed.words() != [1, 0, 7, 3] {
+        return Err(format!("take handed over {:?}", handed.words()));
+    }
+
+    ours(
+        player,
+        &[
+            (CREATE, (0, 1)),
+            (ADD, (0, 0)),
+            (PUBLISH, (0, 0)),
+            (RUN, (0, 17)),
+            (ENTER, (0, 0)),
+            (GO_ON, (0, 0)),
+            (TAKE, (0, 0)),
+            (RUN, (13, 19)),
+            (DROPPED, (0, 1)),
+            (ENTER, (15, 0)),
+            (SEVEN, (0, 3)),
+            (RELEASE, (0, 0)),
+            (RUN, (0, 16)),
+        ],
+    )
+}
+
+/// A new handle in a slot whose old one was inside at the last swap: once it is inside, a publish waits for it (P8).
+fn later_handle(player: Player) -> Result<(), String> {
+    let (mut writer, reader) = left_right::new::<Counts, Change>();
+    let factory = reader.factory();
+    let guard = reader.enter().ok_or("no guard")?;
+    writer.publish();
+    drop(guard);
+    drop(reader);
+    let reader = factory.handle();
+    let guard = reader.enter().ok_or("no guard")?;
+    let publish = apart(move || {
+        writer.publish();
+        writer
+    });
+    waits(&publish, "a publish under a later handle's guard")?;
+    drop(guard);
+    comes(&publish, "the publish, after the release")?;
+
+    ours(
+        player,
+        &[
+            (CREATE, (0, 1)),
+            (ENTER, (0, 0)),
+            (GO_ON, (0, 0)),
+            (PUBLISH, (0, 0)),
+            (RUN, (0, 17)),
+            (RELEASE, (0, 0)),
+            ((2, 1, 0, 0, 0), (0, 0)),
+            (CREATE, (0, 1)),
+            (ENTER, (0, 0)),
+            (GO_ON, (0, 0)),
+            (PUBLISH, (0, 0)),
+            (RUN, (13, 1)),
+            (RELEASE, (0, 0)),
+            (RUN, (0, 33)),
+        ],
+    )
+}
+
+pub fn all(player: Player) -> Result<String, String> {
+    publish(player)?;
+    take(player)?;
+    later_handle(player)?;
+    Ok("with two threads: a publish, a take and a new handle wait where ours are held or locked\n".to_string())
+}

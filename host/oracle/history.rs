@@ -1,0 +1,664 @@
+//! Histories of whole calls, played through the crate and by our rules at once.
+
+use crate::world::{work_done, Change, Counts, World, GUARDS, SLOTS};
+use common::Random;
+use lrt::Player;
+use reference::{Machine, Operation, Phase, Record, Reply, DECLINED, DONE, ENTRY, LOGGED, NONE};
+use std::sync::Mutex;
+
+/// A whole call: an enter goes on to its end, and publish, try, flush and take are run.
+#[derive(Clone, Copy, Debug, PartialEq, Eq)]
+pub enum Call {
+    Create,
+    Drop(usize),
+    Enter(usize),
+    Release(usize, usize),
+    LookUp(usize, usize, u64),
+    WasDropped(usize),
+    Append(Operation),
+    Publish,
+    Try,
+    Flush,
+    Take,
+    /// No call: compares the whole table behind a guard, and looks up each of its keys.
+    Table(usize, usize),
+    /// No call: compares what the crate's Debug shows of its inside.
+    Inside,
+}
+
+pub const CALLS: usize = 13;
+pub const NAMES: [&str; CALLS] = [
+    "creates",
+    "drops",
+    "enters",
+    "releases",
+    "look-ups",
+    "was-dropped",
+    "appends",
+    "publishes",
+    "tries",
+    "flushes",
+    "takes",
+    "whole tables",
+    "looks inside",
+];
+
+impl Call {
+    pub fn number(&self) -> usize {
+        match self {
+            Call::Create => 0,
+            Call::Drop(..) => 1,
+            Call::Enter(..) => 2,
+            Call::Release(..) => 3,
+            Call::LookUp(..) => 4,
+            Call::WasDropped(..) => 5,
+            Call::Append(..) => 6,
+            Call::Publish => 7,
+            Call::Try => 8,
+            Call::Flush => 9,
+            Call::Take => 10,
+            Call::Table(..) => 11,
+            Call::Inside => 12,
+        }
+    }
+}
+
+/// What was met on the way, so that the end of a run can say what it has tried.
+#[derive(Clone, Copy, Default)]
+pub struct Met {
+    pub calls: [u64; CALLS],
+    pub declined: u64,
+    pub declined_by_a_later_handle: u64,
+    pub two_copies: u64,
+    pub spilled: u64,
+    pub full_logs: u64,
+    pub none: u64,
+    pub idle_flushes: u64,
+    pub records: u64,
+}
+
+impl Met {
+    pub fn add(&mut self, other: &Met) {
+        for (sum, more) in self.calls.iter_mut().zip(other.calls) {
+            *sum += more;
+        }
+        self.declined += other.declined;
+        self.declined_by_a_later_handle += other.declined_by_a_later_handle;
+        self.two_copies += other.two_copies;
+        self.spilled += other.spilled;
+        self.full_logs += other.full_logs;
+        self.none += other.none;
+        self.idle_flushes += other.idle_flushes;
+        self.records += other.records;
+    }
+}
+
+/// The seed of the history under way and its calls so far, for the watch if the crate never comes back.
+pub static UNDER_WAY: Mutex<(u64, Vec<Call>)> = Mutex::new((0, Vec::new()));
+
+fn record(call: u8) -> Record {
+    Record { call, slot: 0, guard: 0, kind: 0, key: 0, amount: 0 }
+}
+
+/// One history under way, on three sides: the crate, our rules, and the schedule that the player is given at the end.
+pub struct Run {
+    world: World,
+    pub machine: Machine,
+    pub records: Vec<Record>,
+    /// For each record, what the crate says of it, and what our rules say.
+    said: Vec<(u8, Option<u64>)>,
+    ruled: Vec<Reply>,
+    highest: usize,
+    /// Which handle, counted from the start, each slot's snapshot was read from; and which it has now.
+    read_from: [u64; SLOTS],
+    handle: [u64; SLOTS],
+    created: u64,
+    /// The first record of which the crate and our rules say different things. The history ends there, since the two
+    /// sides go apart.
+    apart: Option<String>,
+    pub met: Met,
+}
+
+type Outcome = Result<(), String>;
+
+/// A schedule and its transcript, on which all sides agree.
+pub type Agreed = (Vec<u8>, Vec<u8>);
+
+impl Run {
+    pub fn new(careful: bool) -> Run {
+        Run {
+            world: World::new(careful),
+            machine: Machine::fresh(),
+            records: Vec::new(),
+            said: Vec::new(),
+            ruled: Vec::new(),
+            highest: 0,
+            read_from: [0; SLOTS],
+            handle: [0; SLOTS],
+            created: 0,
+            apart: None,
+            met: Met::default(),
+        }
+    }
+
+    fn used(&self, slot: usize) -> bool {
+        self.machine.slots[slot].used
+    }
+
+    fn guards(&self, slot: usize) -> usize {
+        self.machine.slots[slot].guards.iter().flatten().count()
+    }
+
+    fn guarded(&self, slot: usize, guard: usize) -> bool {
+        self.used(slot) && self.machine.slots[slot].guards[guard].is_some()
+    }
+
+    fn gone(&self) -> bool {
+        self.machine.phase == Phase::Gone
+    }
+
+    fn writer_free(&self) -> bool {
+        !self.gone() && self.guards(0) == 0
+    }
+
+    /// The first slot at which a publish would wait.
+    fn waits_at(&self) -> Option<usize> {
+        (0..SLOTS).find(|&slot| {
+            let seen = self.machine.snapshots[slot];
+            self.used(slot) && seen % 2 == 1 && self.machine.slots[slot].epoch == seen
+        })
+    }
+
+    /// Slots freed and not handed out again. The order in which the crate's slab reuses its keys is not among our
+    /// papers; with one at most, there is no order.
+    fn freed(&self) -> usize {
+        (1..=self.highest).filter(|&slot| !self.used(slot)).count()
+    }
+
+    /// Can the crate make this call on one thread, and our machine too? A history leaves out what neither or only one
+    /// can: waiting calls, our bounds, and what the crate's borrow rules do not let one write.
+    pub fn admits(&self, call: &Call) -> bool {
+        match *call {
+            Call::Create => (0..SLOTS).any(|slot| !self.used(slot)),
+            Call::Drop(slot) => {
+                let free = self.used(slot) && self.guards(slot) == 0;
+                free && (self.gone() || (slot != 0 && self.freed() == 0))
+            }
+            Call::Enter(slot) => self.used(slot) && self.guards(slot) < GUARDS,
+            Call::Release(slot, guard) | Call::LookUp(slot, guard, _) | Call::Table(slot, guard) => {
+                self.guarded(slot, guard)
+            }
+            Call::WasDropped(slot) => self.used(slot),
+            Call::Append(_) => self.writer_free() && (self.machine.first || self.machine.log.len() < LOGGED),
+            Call::Publish => self.writer_free() && (self.machine.first || self.waits_at().is_none()),
+            Call::Flush => {
+                let idle = self.machine.swap_index >= self.machine.log.len();
+                self.writer_free() && (idle || self.waits_at().is_none())
+            }
+            Call::Try => self.writer_free(),
+            Call::Take => !self.gone() && (0..SLOTS).all(|slot| self.guards(slot) == 0),
+            Call::Inside => true,
+        }
+    }
+
+    /// A record on our side; what the crate says of it is given beside.
+    fn ours(&mut self, record: Record, answer: u8, value: Option<u64>) {
+        let reply = self.machine.call(&record);
+        self.both(record, (answer, value), reply);
+    }
+
+    fn both(&mut self, record: Record, said: (u8, Option<u64>), ruled: Reply) {
+        self.records.push(record);
+        self.said.push(said);
+        self.ruled.push(ruled);
+        if self.apart.is_none() && !agree(said, ruled.answer, ruled.value) {
+            let what = format!("the reference gave {} {}", ruled.answer, ruled.value);
+            self.apart = Some(format!("{} {what}, and the crate {}", self.place(self.records.len() - 1), told(said)));
+        }
+    }
+
+    fn place(&self, at: usize) -> String {
+        format!("record {} ({}):", at + 1, common::line(&self.records[at]))
+    }
+
+    /// Remembers from which handles the snapshots were read.
+    fn swapped(&mut self) {
+        for slot in 0..SLOTS {
+            if self.used(slot) {
+                self.read_from[slot] = self.handle[slot];
+            }
+        }
+    }
+
+    pub fn make(&mut self, call: Call) -> Outcome {
+        self.met.calls[call.number()] += 1;
+        self.try_make(call)?;
+        self.apart.take().map_or(Ok(()), Err)
+    }
+
+    /// A publish or a flush has not come back.
+    fn waited(&mut self, call: u8) -> Outcome {
+        self.records.push(record(call));
+        Err("the crate waits at the last call of this schedule, and our rules do not".to_string())
+    }
+
+    fn try_make(&mut self, call: Call) -> Outcome {
+        match call {
+            Call::Create => {
+                let slot = (0..SLOTS).find(|&slot| !self.used(slot)).unwrap();
+                self.world.create(slot);
+                self.highest = self.highest.max(slot);
+                self.created += 1;
+                self.handle[slot] = self.created;
+                self.ours(record(1), DONE, Some(slot as u64));
+            }
+            Call::Drop(slot) => {
+                self.world.drop_handle(slot);
+                self.ours(Record { slot: slot as u8, ..record(2) }, DONE, Some(0));
+            }
+            Call::Enter(slot) => self.enter(slot),
+            Call::Release(slot, guard) => {
+                self.world.release(slot, guard);
+                self.ours(Record { slot: slot as u8, guard: guard as u8, ..record(5) }, DONE, Some(0));
+            }
+            Call::LookUp(slot, guard, key) => self.look_up(slot, guard, key),
+            Call::WasDropped(slot) => {
+                let dropped = self.world.was_dropped(slot);
+                self.ours(Record { slot: slot as u8, ..record(7) }, DONE, Some(dropped as u64));
+            }
+            Call::Append(operation) => {
+                let Operation { kind, key, amount } = operation;
+                self.world.append(match kind {
+                    reference::ADD => Change::Add(key, amount),
+                    reference::DROP => Change::Drop(key),
+                    _ => Change::Clear,
+                });
+                let work = work_done();
+                if (work.second, work.first) != (self.machine.first as u64, 0) {
+                    return Err(format!("the crate applied {work:?} at an append"));
+                }
+                self.ours(Record { kind, key, amount, ..record(8) }, DONE, Some(0));
+                self.met.full_logs += (self.machine.log.len() == LOGGED) as u64;
+            }
+            Call::Publish => {
+                let polls = if self.machine.first { 0 } else { 16 };
+                if !self.world.publish() {
+                    return self.waited(9);
+                }
+                self.ours(record(9), DONE, Some(0));
+                self.publishes(polls);
+            }
+            Call::Try => {
+                let waits_at = self.waits_at();
+                let swapped = self.world.try_publish();
+                self.ours(record(10), DONE, Some(0));
+                if swapped {
+                    self.publishes(16);
+                } else {
+                    // How many polls passed before is not seen from outside.
+                    self.ours(record(14), DECLINED, None);
+                    self.met.declined += 1;
+                    if let Some(slot) = waits_at {
+                        self.met.declined_by_a_later_handle += (self.handle[slot] != self.read_from[slot]) as u64;
+                    }
+                }
+            }
+            Call::Flush => {
+                let pending = self.world.has_pending();
+                if !self.world.flush() {
+                    return self.waited(11);
+                }
+                self.ours(record(11), DONE, Some(pending as u64));
+                if pending {
+                    self.publishes(16);
+                } else {
+                    self.met.idle_flushes += 1;
+                    let work = work_done();
+                    if (work.first, work.second, work.synchronised) != (0, 0, 0) {
+                        return Err(format!("the crate applied {work:?} at a flush with nothing to do"));
+                    }
+                }
+            }
+            Call::Take => self.take()?,
+            Call::Table(slot, guard) => self.table(slot, guard)?,
+            Call::Inside => self.inside()?,
+        }
+        Ok(())
+    }
+
+    fn enter(&mut self, slot: usize) {
+        let outside = self.guards(slot) == 0;
+        let guard = self.world.enter(slot);
+        let with = |call| Record { slot: slot as u8, ..record(call) };
+        if outside {
+            self.ours(with(3), DONE, Some(0));
+        }
+        // The load is the first call's where a guard was open, and the next call's where none was.
+        let load = if outside { 4 } else { 3 };
+        match guard {
+            Some(guard) => self.ours(with(load), DONE, Some(guard as u64)),
+            None => {
+                self.met.none += 1;
+                self.ours(with(load), NONE, Some(0));
+                if outside {
+                    self.ours(with(4), NONE, Some(0));
+                }
+            }
+        }
+        let sides = self.machine.slots[slot].guards;
+        self.met.two_copies += (sides.contains(&Some(0)) && sides.contains(&Some(1))) as u64;
+    }
+
+    fn look_up(&mut self, slot: usize, guard: usize, key: u64) {
+        let count = self.world.counts(slot, guard).pairs.get(&key).copied();
+        self.ours(Record { slot: slot as u8, guard: guard as u8, key, ..record(6) }, DONE, Some(count.unwrap_or(0)));
+    }
+
+    /// The run of a publish that was not held: each change that the crate made to its tables is a step of ours.
+    fn publishes(&mut self, polls: u64) {
+        let work = work_done();
+        let steps = polls + work.synchronised + work.second + work.first + 1 + 16;
+        self.ours(record(14), DONE, Some(steps));
+        self.swapped();
+    }
+
+    fn take(&mut self) -> Outcome {
+        // How often take publishes is not seen from outside; what decides it is.
+        let shown = self.world.shown().unwrap();
+        let pending = self.world.has_pending();
+        let idle = !shown.first && shown.log.is_empty();
+        let publishes = if idle { 0 } else { 1 + pending as u64 };
+        work_done();
+        let ended = self.world.take();
+        let work = work_done();
+        let polls = if shown.first { 0 } else { 16 };
+        let steps = publishes * (1 + polls + 1 + 16) + work.synchronised + work.second + work.first + 35;
+        self.ours(record(12), DONE, Some(0));
+        // Ours is run up to its last step, to see the copy that this one lets go of.
+        let mut made = 0;
+        while self.machine.phase != Phase::Finish {
+            let reply = self.machine.step();
+            if reply != (Reply { answer: DONE, value: 0 }) {
+                return Err(format!("our take was answered {reply:?} where the crate's did not wait"));
+            }
+            made += 1;
+        }
+        let kept = self.machine.pointer;
+        same("the copy that take drops", ended.dropped.as_ref(), self.machine.copies[1 - kept].view())?;
+        same("the copy that take hands over", Some(&ended.handed), self.machine.copies[kept].view())?;
+        let last = self.machine.run();
+        let whole = Reply { answer: last.answer, value: made + last.value };
+        self.both(record(14), (DONE, Some(steps)), whole);
+        Ok(())
+    }
+
+    fn table(&mut self, slot: usize, guard: usize) -> Outcome {
+        let counts = self.world.counts(slot, guard);
+        same("a guard's table", Some(counts), self.machine.view(slot, guard).unwrap())?;
+        self.met.spilled += (counts.spill > 0) as u64;
+        // Absent keys beside the present ones, and no more of either than a few where there are hundreds.
+        let apart = counts.pairs.len() / 16 + 1;
+        let mut keys: Vec<u64> = counts.pairs.keys().copied().step_by(apart).collect();
+        keys.extend(counts.pairs.keys().map(|key| key.wrapping_add(1)).step_by(2 * apart));
+        keys.push(0);
+        for key in keys {
+            self.look_up(slot, guard, key);
+        }
+        Ok(())
+    }
+
+    fn inside(&mut self) -> Outcome {
+        let machine = &self.machine;
+        let used: Vec<usize> = (0..SLOTS).filter(|&slot| self.used(slot)).collect();
+        for &slot in &used {
+            let epoch = self.world.epoch(slot);
+            if epoch != machine.slots[slot].epoch {
+                let ours = machine.slots[slot].epoch;
+                return Err(format!("slot {slot}: the crate's epoch is {epoch}, ours {ours}"));
+            }
+        }
+        if let Some(&slot) = used.first() {
+            let handles = self.world.handles(slot);
+            if handles != used.len() {
+                return Err(format!("the crate has {handles} handles, ours are {}", used.len()));
+            }
+        }
+        let Some(shown) = self.world.shown() else { return Ok(()) };
+        let log: Vec<String> = machine
+            .log
+            .iter()
+            .map(|operation| match operation.kind {
+                reference::ADD => format!("Add({}, {})", operation.key, operation.amount),
+                reference::DROP => format!("Drop({})", operation.key),
+                _ => "Clear".to_string(),
+            })
+            .collect();
+        if shown.log != log.join(", ") {
+            return Err(format!("the crate's log is {}, ours {}", shown.log, log.join(", ")));
+        }
+        let theirs = (shown.swap_index, shown.first, shown.second);
+        let ours = (machine.swap_index, machine.first, machine.second);
+        if theirs != ours {
+            return Err(format!("swap index, first, second: the crate's are {theirs:?}, ours {ours:?}"));
+        }
+        Ok(())
+    }
+
+    /// Plays the schedule and holds each entry against what the crate said, and then against our rules.
+    pub fn judge(&mut self, player: Player) -> Result<Agreed, String> {
+        self.met.records = self.records.len() as u64;
+        let bytes = reference::schedule(&self.records);
+        let mut out = vec![0; self.records.len() * ENTRY];
+        let played = player(&bytes, &mut out);
+        if played != (0, out.len() as u64) {
+            return Err(format!("the player said {played:?} of a schedule of {} records", self.records.len()));
+        }
+        for (at, entry) in out.chunks_exact(ENTRY).enumerate() {
+            let (answer, value) = (entry[0], u64::from_le_bytes(entry[1..].try_into().unwrap()));
+            let gave = format!("{} the player gave {answer} {value}", self.place(at));
+            if !agree(self.said[at], answer, value) {
+                return Err(format!("{gave}, and the crate {}", told(self.said[at])));
+            }
+            let ruled = self.ruled[at];
+            if (answer, value) != (ruled.answer, ruled.value) {
+                return Err(format!("{gave}, and the reference {} {}", ruled.answer, ruled.value));
+            }
+        }
+        Ok((bytes, out))
+    }
+}
+
+fn agree(said: (u8, Option<u64>), answer: u8, value: u64) -> bool {
+    said.0 == answer && said.1.is_none_or(|said| said == value)
+}
+
+fn told((answer, value): (u8, Option<u64>)) -> String {
+    match value {
+        Some(value) => format!("{answer} {value}"),
+        None => format!("{answer}"),
+    }
+}
+
+fn same(what: &str, theirs: Option<&Counts>, ours: &[u64]) -> Outcome {
+    let theirs = theirs.map(Counts::words).unwrap_or_default();
+    match (0..theirs.len().max(ours.len())).find(|&at| theirs.get(at) != ours.get(at)) {
+        None => Ok(()),
+        Some(at) => {
+            let (one, two) = (theirs.get(at), ours.get(at));
+            Err(format!("{what}: from word {at} on the crate's are {one:?} and ours {two:?}"))
+        }
+    }
+}
+
+/// Plays these calls once more, leaving out what cannot be made. The end is always looked at from inside.
+pub fn replay(calls: &[Call], player: Player) -> (Run, Outcome) {
+    let mut run = Run::new(true);
+    for call in calls {
+        if run.admits(call) {
+            if let Err(what) = run.make(*call) {
+                return (run, Err(what));
+            }
+        }
+    }
+    let outcome = run.inside().and_then(|_| run.judge(player)).map(|_| ());
+    (run, outcome)
+}
+
+/// A random history, played as it is made: the calls so far decide which may come next.
+pub fn random(seed: u64, player: Player) -> (Met, Result<Agreed, String>) {
+    *UNDER_WAY.lock().unwrap() = (seed, Vec::new());
+    let mut run = Run::new(false);
+    let outcome = unfold(&mut Random::new(seed), &mut run).and_then(|_| run.inside()).and_then(|_| run.judge(player));
+    (run.met, outcome)
+}
+
+fn unfold(choose: &mut Random, run: &mut Run) -> Outcome {
+    let next = |run: &mut Run, call: Call| -> Result<bool, String> {
+        let admitted = run.admits(&call);
+        if admitted {
+            UNDER_WAY.lock().unwrap().1.push(call);
+            run.make(call)?;
+        }
+        Ok(admitted)
+    };
+    let plan = Plan::new(choose);
+    let mut left = plan.calls;
+    while left > 0 {
+        left -= 1;
+        let call = plan.next(choose, run);
+        if next(run, call)? && call == Call::Take {
+            // Not much can happen after it.
+            left = left.min(10);
+        }
+    }
+    // What a new guard shows, and what every open one still does.
+    for slot in 0..SLOTS {
+        if next(run, Call::Enter(slot))? {
+            break;
+        }
+    }
+    for slot in 0..SLOTS {
+        for guard in 0..GUARDS {
+            next(run, Call::Table(slot, guard))?;
+        }
+    }
+    Ok(())
+}
+
+/// What a history is like. Each one prefers some calls and does without others, since a history that does a little of
+/// everything never gets far in one direction.
+struct Plan {
+    calls: usize,
+    slots: usize,
+    keys: u64,
+    spread: u64,
+    large: bool,
+    weights: [usize; CALLS],
+}
+
+impl Plan {
+    fn new(choose: &mut Random) -> Plan {
+        let mut weights = [0; CALLS];
+        for weight in &mut weights {
+            *weight = choose.pick(&[0, 1, 1, 3, 9]);
+        }
+        // Without these nothing happens.
+        for (at, least) in [(0, 1), (2, 2), (3, 1), (6, 1), (7, 1)] {
+            weights[at] = weights[at].max(least);
+        }
+        weights[10] = choose.chance(1, 3) as usize;
+        weights[12] = weights[12].min(1);
+        let mut plan = Plan {
+            calls: 10 + choose.below(70),
+            slots: choose.pick(&[1, 2, 3, 5, 15]),
+            keys: choose.pick(&[1, 2, 4, 9]),
+            spread: choose.pick(&[1, 1, u64::MAX / 9]),
+            large: choose.chance(1, 3),
+            weights,
+        };
+        if choose.chance(1, 50) {
+            // Long enough to fill the log, or the table.
+            plan.calls = 400 + choose.below(1500);
+            plan.keys = choose.pick(&[9, 300, 700]);
+            plan.spread = choose.pick(&[1, 3, u64::MAX / 700]);
+            plan.weights = plan.weights.map(|weight| weight.min(2));
+            plan.weights[6] = choose.pick(&[60, 600]);
+            plan.weights[10] = 0;
+        }
+        plan
+    }
+
+    fn key(&self, choose: &mut Random) -> u64 {
+        (choose.word() % self.keys).wrapping_mul(self.spread)
+    }
+
+    fn next(&self, choose: &mut Random, run: &Run) -> Call {
+        let used: Vec<usize> = (0..SLOTS).filter(|&slot| run.used(slot)).collect();
+        let open: Vec<(usize, usize)> = (0..SLOTS)
+            .flat_map(|slot| (0..GUARDS).map(move |guard| (slot, guard)))
+            .filter(|&(slot, guard)| run.guarded(slot, guard))
+            .collect();
+        let mut slot = if used.is_empty() { 0 } else { choose.pick(&used) };
+        if slot == 0 && !used.is_empty() && choose.chance(1, 2) {
+            // The writer's own handle, once inside, keeps the writer from everything.
+            slot = choose.pick(&used);
+        }
+        let (inside, guard) = if open.is_empty() { (0, 0) } else { choose.pick(&open) };
+        let freed = run.freed() > 0 && choose.chance(1, 2);
+        let call = match choose.weighed(&self.weights) {
+            1 | 2 if freed => Call::Create,
+            0 if used.len() > self.slots && !freed && !choose.chance(1, 8) => Call::Enter(slot),
+            0 => Call::Create,
+            1 => Call::Drop(slot),
+            2 => Call::Enter(slot),
+            3 => Call::Release(inside, guard),
+            4 => Call::LookUp(inside, guard, self.key(choose)),
+            5 => Call::WasDropped(slot),
+            6 => Call::Append(self.operation(choose)),
+            7 => Call::Publish,
+            8 => Call::Try,
+            9 => Call::Flush,
+            10 => Call::Take,
+            11 => Call::Table(inside, guard),
+            _ => Call::Inside,
+        };
+        match call {
+            // The writer cannot: its own handle is inside, or it would wait. A try says the latter on both sides.
+            Call::Append(_) | Call::Publish | Call::Try | Call::Flush if run.guards(0) > 0 && !run.gone() => {
+                Call::Release(0, (0..GUARDS).find(|&guard| run.guarded(0, guard)).unwrap())
+            }
+            Call::Publish | Call::Flush if !run.admits(&call) => Call::Try,
+            Call::Take if !run.admits(&call) => Call::Release(inside, guard),
+            _ => call,
+        }
+    }
+
+    fn operation(&self, choose: &mut Random) -> Operation {
+        let key = self.key(choose);
+        // Clears are rare, else no table grows.
+        match choose.below(if self.keys > 9 { 60 } else { 12 }) {
+            0 if choose.chance(1, if self.keys > 9 { 40 } else { 4 }) => {
+                Operation { kind: reference::CLEAR, key: 0, amount: 0 }
+            }
+            0..=2 => Operation { kind: reference::DROP, key, amount: 0 },
+            _ if self.large => Operation { kind: reference::ADD, key, amount: u64::MAX - choose.word() % 3 },
+            _ => Operation { kind: reference::ADD, key, amount: 1 + choose.word() % 5 },
+        }
+    }
+}
+
+/// Simpler calls that may stand in for one, to make a difference easier to read.
+pub fn simpler(call: &Call) -> Vec<Call> {
+    match *call {
+        Call::Append(Operation { kind: reference::ADD, key, amount }) => {
+            let add = |key, amount| Call::Append(Operation { kind: reference::ADD, key, amount });
+            vec![add(1, 1), add(key, 1), add(1, amount)]
+        }
+        Call::Append(Operation { kind, .. }) => {
+            vec![Call::Append(Operation { kind, key: if kind == reference::DROP { 1 } else { 0 }, amount: 0 })]
+        }
+        Call::LookUp(slot, guard, _) => vec![Call::LookUp(slot, guard, 1), Call::LookUp(slot, guard, 0)],
+        Call::Flush => vec![Call::Publish],
+        _ => Vec::new(),
+    }
+}

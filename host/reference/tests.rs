@@ -1,0 +1,537 @@
+//! The known ends of the scope, its counts, the order of refusals and the refused files.
+
+use super::*;
+
+const TOP: u64 = u64::MAX;
+
+fn add(key: u64, amount: u64) -> Operation {
+    Operation { kind: ADD, key, amount }
+}
+
+fn drop_key(key: u64) -> Operation {
+    Operation { kind: DROP, key, amount: 0 }
+}
+
+const WIPE: Operation = Operation { kind: CLEAR, key: 0, amount: 0 };
+
+fn says(answer: u8, value: u64) -> Reply {
+    Reply { answer, value }
+}
+
+/// Begins a publish and runs it.
+fn published(m: &mut Machine) -> Reply {
+    assert_eq!(m.publish(), says(DONE, 0));
+    m.run()
+}
+
+/// Enters a handle that has no guard open, and loads.
+fn inside(m: &mut Machine, slot: u8) -> Reply {
+    assert_eq!(m.enter(slot), says(DONE, 0));
+    m.go_on(slot)
+}
+
+fn record(call: u8) -> Record {
+    Record { call, slot: 0, guard: 0, kind: 0, key: 0, amount: 0 }
+}
+
+/// P1, from its bytes. Returns the machine's end for P2.
+fn first_case() -> Machine {
+    let records = [
+        record(1),
+        Record { kind: 1, key: 7, amount: 3, ..record(8) },
+        record(9),
+        record(14),
+        Record { slot: 1, ..record(3) },
+        Record { slot: 1, ..record(4) },
+        Record { slot: 1, key: 7, ..record(6) },
+    ];
+    let mut out = [0xaa; 70];
+    assert_eq!(play(&schedule(&records), &mut out), (0, 63));
+    let values = [1, 0, 0, 17, 0, 0, 3];
+    for (entry, value) in out.chunks_exact(9).zip(values) {
+        assert_eq!(entry[0], 0);
+        assert_eq!(entry[1..], u64::to_le_bytes(value));
+    }
+    assert_eq!(out[63..], [0xaa; 7]);
+    let mut m = Machine::fresh();
+    for (record, value) in records.iter().zip(values) {
+        assert_eq!(m.call(record), says(DONE, value));
+    }
+    m
+}
+
+#[test]
+fn p1_whole_transcript() {
+    first_case();
+}
+
+#[test]
+fn p2_one_publish_passes_a_guard_and_the_next_is_held() {
+    let mut m = first_case();
+    assert_eq!(m.append(add(9, 1)), says(DONE, 0));
+    assert_eq!(published(&mut m), says(DONE, 35));
+    assert_eq!(m.look_up(1, 0, 9), says(DONE, 0));
+    assert_eq!(m.look_up(1, 0, 7), says(DONE, 3));
+    assert_eq!(published(&mut m), says(HELD, 1));
+    assert_eq!(m.step(), says(HELD, 0));
+    assert_eq!(m.run(), says(HELD, 0));
+    assert_eq!(m.release(1, 0), says(DONE, 0));
+    assert_eq!(m.run(), says(DONE, 33));
+    assert_eq!(inside(&mut m, 1), says(DONE, 0));
+    assert_eq!(m.look_up(1, 0, 9), says(DONE, 1));
+}
+
+#[test]
+fn p3_flush_is_no_first_publish() {
+    let mut m = Machine::fresh();
+    m.create();
+    assert_eq!(m.append(add(7, 3)), says(DONE, 0));
+    assert_eq!(m.flush(), says(DONE, 0));
+    assert_eq!(m.step(), says(NOT_NOW, 0));
+    assert_eq!(inside(&mut m, 1), says(DONE, 0));
+    assert_eq!(m.look_up(1, 0, 7), says(DONE, 0));
+    assert_eq!(m.view(1, 0), Some(&[0, 0][..]));
+}
+
+#[test]
+fn p4_guards_of_one_handle_on_two_copies() {
+    let mut m = Machine::fresh();
+    m.create();
+    m.append(add(7, 3));
+    assert_eq!(inside(&mut m, 1), says(DONE, 0));
+    assert_eq!(published(&mut m), says(DONE, 17));
+    assert_eq!(m.enter(1), says(DONE, 1));
+    assert_eq!(m.slots[1].guards, [Some(LEFT), Some(RIGHT), None, None]);
+    assert_eq!(m.slots[1].epoch, 1);
+    assert_eq!(m.look_up(1, 0, 7), says(DONE, 0));
+    assert_eq!(m.look_up(1, 1, 7), says(DONE, 3));
+    // Releasing in the order of opening keeps the epoch until the last.
+    assert_eq!(m.release(1, 0), says(DONE, 0));
+    assert_eq!(m.slots[1].epoch, 1);
+    assert_eq!(m.release(1, 1), says(DONE, 0));
+    assert_eq!(m.slots[1].epoch, 2);
+}
+
+#[test]
+fn p5_epochs_go_round() {
+    let mut m = Machine::fresh();
+    m.create();
+    m.slots[1].epoch = TOP - 1;
+    assert_eq!(inside(&mut m, 1), says(DONE, 0));
+    assert_eq!(m.slots[1].epoch, TOP);
+    // Held by the epoch 2^64-1, and passed once it is 0.
+    published(&mut m);
+    assert_eq!(m.snapshots[1], TOP);
+    assert_eq!(published(&mut m), says(HELD, 1));
+    assert_eq!(m.release(1, 0), says(DONE, 0));
+    assert_eq!(m.slots[1].epoch, 0);
+    assert_eq!(m.run(), says(DONE, 33));
+}
+
+#[test]
+fn p6_enter_after_null() {
+    let mut m = Machine::fresh();
+    m.create();
+    m.take();
+    assert_eq!(m.run(), says(DONE, 53));
+    let epoch = m.slots[1].epoch;
+    assert_eq!(m.enter(1), says(DONE, 0));
+    assert_eq!(m.drop_handle(1), says(NOT_NOW, 0));
+    assert_eq!(m.go_on(1), says(NONE, 0));
+    assert_eq!(m.drop_handle(1), says(NOT_NOW, 0));
+    assert_eq!(m.go_on(1), says(NONE, 0));
+    assert_eq!(m.slots[1].epoch, epoch + 2);
+    assert_eq!(m.go_on(1), says(NOT_NOW, 0));
+    assert_eq!(m.was_dropped(1), says(DONE, 1));
+}
+
+#[test]
+fn p7_take_on_a_fresh_machine() {
+    let mut m = Machine::fresh();
+    assert_eq!(m.take(), says(DONE, 0));
+    assert_eq!(m.run(), says(DONE, 53));
+    assert_eq!(m.phase, Phase::Gone);
+    assert_eq!(m.slots[0].used, false);
+    assert_eq!(m.locked, false);
+}
+
+#[test]
+fn p8_a_new_handle_in_an_old_slot_holds_a_publish() {
+    let mut m = Machine::fresh();
+    assert_eq!(m.create(), says(DONE, 1));
+    inside(&mut m, 1);
+    published(&mut m);
+    assert_eq!(m.snapshots[1], 1);
+    assert_eq!(m.release(1, 0), says(DONE, 0));
+    assert_eq!(m.drop_handle(1), says(DONE, 0));
+    assert_eq!((m.slots[1].epoch, m.snapshots[1]), (2, 1));
+    assert_eq!(m.create(), says(DONE, 1));
+    assert_eq!((m.slots[1].epoch, m.snapshots[1]), (0, 1));
+    assert_eq!(inside(&mut m, 1), says(DONE, 0));
+    assert_eq!(published(&mut m), says(HELD, 1));
+}
+
+#[test]
+fn p8_passed_by_a_try_that_is_declined_later() {
+    // The snapshot that counts is the one read at the last swap, not the one that a poll looked at.
+    let mut m = Machine::fresh();
+    m.create();
+    m.create();
+    inside(&mut m, 1);
+    inside(&mut m, 2);
+    published(&mut m);
+    m.release(1, 0);
+    m.drop_handle(1);
+    m.create();
+    m.try_publish();
+    assert_eq!(m.run(), says(DECLINED, 2));
+    inside(&mut m, 1);
+    m.try_publish();
+    assert_eq!(m.run(), says(DECLINED, 1));
+}
+
+#[test]
+fn p9_counts_stop_at_the_top() {
+    let mut m = Machine::fresh();
+    m.create();
+    m.append(add(5, TOP - 1));
+    m.append(add(5, 1));
+    m.append(add(5, 5));
+    published(&mut m);
+    inside(&mut m, 1);
+    assert_eq!(m.look_up(1, 0, 5), says(DONE, TOP));
+}
+
+#[test]
+fn keys_512_fit_and_the_next_spills() {
+    let mut m = Machine::fresh();
+    m.create();
+    for key in (0..512).rev() {
+        assert_eq!(m.append(add(key * 3, key + 1)), says(DONE, 0));
+    }
+    assert_eq!((m.copies[RIGHT].used(), m.copies[RIGHT].spill()), (512, 0));
+    let before = m.copies[RIGHT].clone();
+    m.append(add(1, 9));
+    assert_eq!((m.copies[RIGHT].used(), m.copies[RIGHT].spill()), (512, 1));
+    assert_eq!(m.copies[RIGHT].words[2..], before.words[2..]);
+    // A present key still grows, a dropped one makes room, and CLEAR takes the spill too.
+    m.append(add(3, 1));
+    assert_eq!(m.copies[RIGHT].look_up(3), Some(&[3, 3][..]));
+    m.append(drop_key(0));
+    m.append(add(1, 9));
+    assert_eq!((m.copies[RIGHT].used(), m.copies[RIGHT].spill()), (512, 1));
+    assert_eq!(m.copies[RIGHT].words[2..6], [1, 9, 3, 3]);
+    m.copies[RIGHT].words[1] = TOP;
+    m.append(add(2, 1));
+    assert_eq!(m.copies[RIGHT].spill(), TOP);
+    m.append(WIPE);
+    assert_eq!(m.copies[RIGHT].words, [0; TABLE_WORDS]);
+}
+
+#[test]
+fn pairs_move_inside_one_copy() {
+    let mut t = Table::empty();
+    for key in [5, 1, 9, 3, TOP, 0] {
+        t.apply(add(key, key / 2 + 1));
+    }
+    assert_eq!(t.view(), [6, 0, 0, 1, 1, 1, 3, 2, 5, 3, 9, 5, TOP, TOP / 2 + 1]);
+    t.apply(drop_key(3));
+    t.apply(drop_key(4));
+    t.apply(drop_key(TOP));
+    assert_eq!(t.view(), [4, 0, 0, 1, 1, 1, 5, 3, 9, 5]);
+    assert_eq!(t.words[10..], [0; TABLE_WORDS - 10]);
+}
+
+#[test]
+fn appends_256_after_the_first_publish() {
+    let mut m = Machine::fresh();
+    published(&mut m);
+    for key in 0..256 {
+        assert_eq!(m.append(add(key, 1)), says(DONE, 0));
+    }
+    assert_eq!(m.append(add(256, 1)), says(LOG_FULL, 0));
+    // One publish applies all and drops none: the other copy still wants them.
+    assert_eq!(published(&mut m), says(DONE, 16 + 1 + 256 + 1 + 16));
+    assert_eq!(m.append(add(256, 1)), says(LOG_FULL, 0));
+    assert_eq!(published(&mut m), says(DONE, 16 + 256 + 1 + 16));
+    assert_eq!(m.log_words(), [0; LOG_WORDS]);
+    assert_eq!(m.append(add(256, 1)), says(DONE, 0));
+    assert_eq!(m.log_words()[..4], [1, 256, 1, 0]);
+}
+
+#[test]
+fn take_after_the_first_publish_with_an_empty_log() {
+    let mut m = Machine::fresh();
+    m.append(add(7, 3));
+    published(&mut m);
+    let kept = m.pointer;
+    assert_eq!(m.take(), says(DONE, 0));
+    for _ in 0..34 {
+        assert_eq!(m.step(), says(DONE, 0));
+    }
+    // The copy that is dropped never heard of the key.
+    assert_eq!(m.phase, Phase::Finish);
+    assert!(m.second);
+    assert_eq!(m.copies[1 - kept].view(), [0, 0]);
+    assert_eq!(m.step(), says(DONE, 1));
+    assert_eq!(m.copies[kept].view(), [1, 0, 7, 3]);
+    assert_eq!(m.step(), says(GONE, 0));
+
+    let mut m = Machine::fresh();
+    published(&mut m);
+    m.take();
+    assert_eq!(m.run(), says(DONE, 35));
+}
+
+#[test]
+fn counts_of_publishes() {
+    // A publish's beginning is a step too: the first ends at step 18, the others at 34 plus one for the copying
+    // (once) and one for each operation in the log.
+    let mut m = Machine::fresh();
+    m.append(add(1, 1));
+    assert_eq!(1 + published(&mut m).value, 18);
+    assert_eq!(1 + published(&mut m).value, 34 + 1);
+    assert_eq!(1 + published(&mut m).value, 34);
+    m.append(add(2, 1));
+    m.append(add(3, 1));
+    assert_eq!(1 + published(&mut m).value, 34 + 2);
+    m.append(add(4, 1));
+    assert_eq!(m.swap_index, 2);
+    assert_eq!(1 + published(&mut m).value, 34 + 3);
+    assert_eq!(1 + published(&mut m).value, 34 + 1);
+    assert_eq!(1 + published(&mut m).value, 34);
+    let table = [4, 0, 1, 1, 2, 1, 3, 1, 4, 1];
+    assert_eq!(m.copies[LEFT].view(), table);
+    assert_eq!(m.copies[RIGHT].view(), table);
+}
+
+#[test]
+fn counts_of_tries() {
+    let mut m = Machine::fresh();
+    assert_eq!(m.try_publish(), says(DONE, 0));
+    assert_eq!(1 + m.run().value, 34);
+    assert_eq!(m.try_publish(), says(DONE, 0));
+    assert_eq!(1 + m.run().value, 34 + 1);
+    m.append(add(2, 1));
+    assert_eq!(m.try_publish(), says(DONE, 0));
+    assert_eq!(1 + m.run().value, 34 + 1);
+}
+
+#[test]
+fn counts_of_takes() {
+    // `before` appends stand below the swap index, `after` behind it.
+    for before in 0..3 {
+        for after in 0..3 {
+            let mut m = Machine::fresh();
+            published(&mut m);
+            for key in 0..before {
+                m.append(add(key, 1));
+            }
+            if before > 0 {
+                published(&mut m);
+            }
+            for key in 0..after {
+                m.append(add(key, 1));
+            }
+            let unsynchronised = m.second as u64;
+            m.take();
+            let held = before + after;
+            let first = if held > 0 { 34 + unsynchronised + held } else { 0 };
+            let second = if after > 0 { 34 + after } else { 0 };
+            assert_eq!(m.run(), says(DONE, first + second + 35), "{before} before, {after} after");
+        }
+    }
+}
+
+#[test]
+fn while_first_only_slot_0_notices_an_append() {
+    let mut m = Machine::fresh();
+    m.slots[0].epoch = TOP - 1;
+    m.append(add(1, 1));
+    assert_eq!(m.slots[0].epoch, 0);
+    assert!(m.log.is_empty());
+    published(&mut m);
+    m.append(add(1, 1));
+    assert_eq!(m.slots[0].epoch, 0);
+    assert_eq!(m.log.len(), 1);
+}
+
+#[test]
+fn a_declined_try_changes_nothing() {
+    let mut m = Machine::fresh();
+    m.create();
+    inside(&mut m, 1);
+    published(&mut m);
+    m.append(add(1, 1));
+    assert_eq!(m.try_publish(), says(DONE, 0));
+    assert_eq!(m.create(), says(LOCKED, 0));
+    assert_eq!(m.step(), says(DONE, 0));
+    assert_eq!(m.step(), says(DECLINED, 1));
+    assert_eq!(m.step(), says(NOT_NOW, 0));
+    assert_eq!(m.create(), says(DONE, 2));
+    assert!(m.second);
+    assert_eq!(m.swap_index, 0);
+    assert_eq!(m.try_publish(), says(DONE, 0));
+    assert_eq!(m.run(), says(DECLINED, 1));
+    m.release(1, 0);
+    assert_eq!(m.try_publish(), says(DONE, 0));
+    assert_eq!(m.run(), says(DONE, 35));
+}
+
+#[test]
+fn take_waits_for_snapshots_of_its_own() {
+    // A reader that came after the last publish is even in that publish's snapshot, and must still be waited for.
+    let mut m = Machine::fresh();
+    m.create();
+    published(&mut m);
+    inside(&mut m, 1);
+    m.take();
+    assert_eq!(m.run(), says(HELD, 1 + 1 + 16 + 1));
+    assert_eq!(m.was_dropped(1), says(DONE, 1));
+    assert_eq!(m.enter(1), says(NONE, 0));
+    assert_eq!(m.look_up(1, 0, 0), says(DONE, 0));
+    assert_eq!(m.release(1, 0), says(DONE, 0));
+    assert_eq!(m.run(), says(DONE, 16));
+}
+
+#[test]
+fn the_lock_within_a_take() {
+    // Free before each publish's begin, before null and before the lock step; held elsewhere.
+    let mut m = Machine::fresh();
+    published(&mut m);
+    m.append(add(1, 1));
+    m.take();
+    let mut free = Vec::new();
+    let mut step = 0;
+    loop {
+        if !m.locked {
+            free.push(step);
+        }
+        step += 1;
+        if m.step().value == 1 {
+            break;
+        }
+    }
+    // Two publishes of 36 and 35 steps, then null, lock and the rest.
+    assert_eq!(free, [0, 36, 71, 72]);
+    assert_eq!(step, 71 + 35);
+}
+
+#[test]
+fn create_after_gone_hands_out_slot_0() {
+    let mut m = Machine::fresh();
+    m.take();
+    m.run();
+    assert_eq!(m.was_dropped(0), says(NO_SLOT, 0));
+    assert_eq!(m.create(), says(DONE, 0));
+    assert_eq!(m.was_dropped(0), says(DONE, 1));
+    assert_eq!(m.enter(0), says(DONE, 0));
+    assert_eq!(m.go_on(0), says(NONE, 0));
+    assert_eq!(m.go_on(0), says(NONE, 0));
+    assert_eq!(m.drop_handle(0), says(DONE, 0));
+    assert_eq!(m.append(Operation { kind: 9, key: 0, amount: 0 }), says(GONE, 0));
+}
+
+#[test]
+fn the_smallest_refusal_wins() {
+    let bad = Operation { kind: 1, key: 7, amount: 0 };
+    let mut m = Machine::fresh();
+    assert_eq!(m.drop_handle(0), says(NOT_NOW, 0));
+    assert_eq!(m.enter(16), says(NO_SLOT, 0));
+    assert_eq!(m.enter(1), says(NO_SLOT, 0));
+    assert_eq!(m.release(0, 0), says(NO_GUARD, 0));
+    assert_eq!(m.look_up(0, 4, 0), says(NO_GUARD, 0));
+    assert_eq!(m.go_on(0), says(NOT_NOW, 0));
+    assert_eq!(m.append(bad), says(OPERATION, 0));
+    // A step due at slot 0 comes before its open guards; a bad operation before both.
+    assert_eq!(m.enter(0), says(DONE, 0));
+    assert_eq!(m.append(add(1, 1)), says(NOT_NOW, 0));
+    assert_eq!(m.append(bad), says(OPERATION, 0));
+    assert_eq!(m.flush(), says(NOT_NOW, 0));
+    assert_eq!(m.was_dropped(0), says(DONE, 0));
+    assert_eq!(m.release(0, 0), says(NO_GUARD, 0));
+    assert_eq!(m.go_on(0), says(DONE, 0));
+    for guard in 1..4 {
+        assert_eq!(m.enter(0), says(DONE, guard));
+    }
+    assert_eq!(m.enter(0), says(FOUR_GUARDS, 0));
+    for reply in [m.append(add(1, 1)), m.publish(), m.try_publish(), m.flush(), m.take()] {
+        assert_eq!(reply, says(GUARDS_OPEN, 0));
+    }
+    for guard in [2, 0, 3, 1] {
+        assert_eq!(m.release(0, guard), says(DONE, 0));
+    }
+    for slot in 1..16 {
+        assert_eq!(m.create(), says(DONE, slot));
+    }
+    assert_eq!(m.create(), says(SLOTS_FULL, 0));
+    // Under way: 6 for slot 0, 7 before 8 and 12.
+    inside(&mut m, 1);
+    m.publish();
+    assert_eq!(m.append(bad), says(OPERATION, 0));
+    assert_eq!(m.append(add(1, 1)), says(NOT_NOW, 0));
+    assert_eq!(m.take(), says(NOT_NOW, 0));
+    for reply in [m.drop_handle(0), m.enter(0), m.go_on(0), m.release(0, 0), m.look_up(0, 0, 0), m.was_dropped(0)] {
+        assert_eq!(reply, says(NOT_NOW, 0));
+    }
+    assert_eq!(m.create(), says(LOCKED, 0));
+    assert_eq!(m.drop_handle(1), says(LOCKED, 0));
+    m.run();
+    assert_eq!(m.create(), says(SLOTS_FULL, 0));
+    assert_eq!(m.drop_handle(1), says(GUARDS_OPEN, 0));
+    assert_eq!(m.run(), says(NOT_NOW, 0));
+}
+
+#[test]
+fn four_guards_come_before_null() {
+    let mut m = Machine::fresh();
+    m.create();
+    inside(&mut m, 1);
+    for _ in 0..3 {
+        m.enter(1);
+    }
+    m.take();
+    m.run();
+    assert_eq!(m.was_dropped(1), says(DONE, 1));
+    assert_eq!(m.enter(1), says(FOUR_GUARDS, 0));
+    m.release(1, 2);
+    assert_eq!(m.enter(1), says(NONE, 0));
+}
+
+#[test]
+fn refused_files() {
+    let good = schedule(&[record(1), record(9)]);
+    let refused = |bytes: &[u8], room: usize| {
+        let mut out = vec![0x55; room];
+        let (answer, written) = play(bytes, &mut out);
+        assert_eq!(written, 0);
+        assert!(out.iter().all(|&byte| byte == 0x55));
+        answer
+    };
+    assert_eq!(refused(&[], 18), BAD_MARK);
+    assert_eq!(refused(b"LRT\x01", 18), BAD_MARK);
+    assert_eq!(refused(b"LRS\x01\x00", 18), BAD_MARK);
+    assert_eq!(refused(b"LRT\x02\x00", 18), BAD_VERSION);
+    assert_eq!(refused(b"LRT\x01\x01", 18), BAD_VERSION);
+    assert_eq!(refused(&good[..good.len() - 1], 18), TORN);
+    assert_eq!(refused(&good, 17), SHORT_OUTPUT);
+    for call in [0, 15, 255] {
+        assert_eq!(refused(&schedule(&[record(1), record(call)]), 18), BAD_CALL);
+        // Torn comes before a bad call, and a bad call before a short output.
+        let bytes = schedule(&[record(call), record(1)]);
+        assert_eq!(refused(&bytes[..bytes.len() - 1], 18), TORN);
+        assert_eq!(refused(&bytes, 0), BAD_CALL);
+    }
+    assert_eq!(play(&schedule(&[]), &mut []), (0, 0));
+    let mut out = [0x55; 20];
+    assert_eq!(play(&good, &mut out), (0, 18));
+    assert_eq!(out[18..], [0x55, 0x55]);
+}
+
+#[test]
+fn records_go_to_bytes_and_back() {
+    let record = Record { call: 6, slot: 5, guard: 4, kind: 3, key: 0x0807060504030201, amount: TOP - 1 };
+    let bytes = record.to_bytes();
+    assert_eq!(bytes[..12], [6, 5, 4, 3, 1, 2, 3, 4, 5, 6, 7, 8]);
+    assert_eq!(Record::from_bytes(&bytes), record);
+}
