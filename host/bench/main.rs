@@ -1,6 +1,7 @@
 //! Times the players on three schedules: mostly look-ups, mostly appends with a publish every 64, many held polls.
 //!
-//!   bench [RECORDS]
+//!   bench [RECORDS]                              times
+//!   bench plays PLAYER SCHEDULE TIMES [RECORDS]  that many plays and no more, for something that counts instructions
 //!
 //! Each player plays each schedule a number of times, in turn, and the shortest time counts: what else the machine does
 //! only ever adds. The reference walks through the pairs of a table; `halving` is the same program with a search by
@@ -12,6 +13,8 @@ use reference::{Record, ENTRY};
 use std::time::Instant;
 
 const TURNS: usize = 15;
+
+const RECORDS: u64 = 100_000;
 
 fn record(call: u8) -> Record {
     Record { call, slot: 0, guard: 0, kind: 0, key: 0, amount: 0 }
@@ -78,26 +81,61 @@ fn held(length: usize) -> Vec<Record> {
     records
 }
 
-fn main() {
-    let length = common::number(std::env::args().nth(1), 100_000) as usize;
+/// A schedule by its name.
+fn named(name: &str, length: usize) -> Option<Vec<Record>> {
+    match name {
+        "look-ups" => Some(look_ups(length)),
+        "appends" => Some(appends(length)),
+        "held-polls" => Some(held(length)),
+        _ => None,
+    }
+}
+
+fn players() -> Vec<(&'static str, Player)> {
     let mut players: Vec<(&str, Player)> = vec![("reference", reference::play), ("halving", halving::play)];
     if let Some(player) = lrt::player() {
         players.push(("proved", player));
     }
+    players
+}
+
+/// One play, with what it must write.
+fn play(player: Player, schedule: &[u8], wanted: &[u8]) -> f64 {
+    let mut out = vec![0; wanted.len()];
+    let start = Instant::now();
+    let played = player(schedule, &mut out);
+    let time = start.elapsed().as_secs_f64();
+    assert!(played == (0, out.len() as u64) && out == wanted, "a player differs from the reference");
+    time
+}
+
+fn plays(words: &mut impl Iterator<Item = String>) -> Option<()> {
+    let player = words.next()?;
+    let (_, player) = players().into_iter().find(|(name, _)| *name == player)?;
+    let name = words.next()?;
+    let times = common::number(words.next(), 1);
+    let records = named(&name, common::number(words.next(), RECORDS) as usize)?;
+    let schedule = reference::schedule(&records);
+    let mut wanted = vec![0; records.len() * ENTRY];
+    reference::play(&schedule, &mut wanted);
+    for _ in 0..times {
+        play(player, &schedule, &wanted);
+    }
+    Some(())
+}
+
+fn times(length: usize) {
+    let players = players();
     println!("{length} records, shortest of {TURNS} turns");
-    for (name, records) in [("look-ups", look_ups(length)), ("appends", appends(length)), ("held polls", held(length))]
-    {
+    for name in ["look-ups", "appends", "held-polls"] {
+        let records = named(name, length).unwrap();
         let schedule = reference::schedule(&records);
         let mut wanted = vec![0; records.len() * ENTRY];
         reference::play(&schedule, &mut wanted);
         let mut shortest = vec![f64::MAX; players.len()];
         for _ in 0..TURNS {
-            for (best, (player_name, player)) in shortest.iter_mut().zip(&players) {
-                let mut out = vec![0; wanted.len()];
-                let start = Instant::now();
-                let played = player(&schedule, &mut out);
-                *best = best.min(start.elapsed().as_secs_f64());
-                assert!(played == (0, out.len() as u64) && out == wanted, "{player_name} differs on {name}");
+            for (best, (_, player)) in shortest.iter_mut().zip(&players) {
+                *best = best.min(play(*player, &schedule, &wanted));
             }
         }
         let told: Vec<String> = players
@@ -106,5 +144,15 @@ fn main() {
             .map(|((player, _), time)| format!("{player} {:.2} ms ({:.2})", time * 1e3, time / shortest[0]))
             .collect();
         println!("{name:>10}: {}", told.join(", "));
+    }
+}
+
+fn main() {
+    let mut words = std::env::args().skip(1).peekable();
+    if words.next_if(|word| word == "plays").is_none() {
+        times(common::number(words.next(), RECORDS) as usize);
+    } else if plays(&mut words).is_none() {
+        eprintln!("bench plays PLAYER SCHEDULE TIMES [RECORDS]");
+        std::process::exit(2)
     }
 }

@@ -2,3 +2,4 @@ pub mod Cases
 pub mod Determined
 pub mod Laws
 pub mod Values
+pub mod Wrong

@@ -1,6 +1,6 @@
 -- Wrong players, each with one part of the right one changed, and for each a proof that the promise is false of it: one file where the
 -- two differ, computed.
-use Prim.Native.Nat.{ℕ, zero, suc, _+_, _*_, _^_}
+use Prim.Native.Nat.{ℕ, zero, suc, _+_, _-_, _*_, _/_, _^_}
 use mathlib.Core.Path.{_≡_, refl, ap, _∙_}
 use mathlib.Core.Bool.{true, false}
 use mathlib.Core.List.{List, [], _∷_, _++_}
@@ -10,6 +10,7 @@ use lib.ListN.{length, getD, take, drop, replicate}
 use Rattle.table.specs.Seek.{seek}
 use Rattle.table.specs.Answers.{number}
 use Rattle.table.specs.Copy.{words, added, dropped, applied, lawful, fitness, applyRule, lookRule, usedRule, closeRule}
+use Rattle.table.specs.declared.Answer.{Answer}
 use Rattle.table.specs.declared.Answer.the-variants as answer
 use Rattle.read.specs.declared.State.{State}
 use Rattle.read.specs.declared.Reply.{Reply}
@@ -24,7 +25,7 @@ use Rattle.write.specs.Begins.{appendOn, opened, openOn}
 use Rattle.write.specs.Runs.{stepOn, steps, runOn}
 use Rattle.write.specs.Machine.{callOn, callRule}
 use Rattle.play.specs.declared.Flaw.{Flaw}
-use Rattle.play.specs.Schedule.{numberAt, bytesOf, count, startOf, marked, versionOf, torn, firstUnknown, callOf, decoded, callsFrom}
+use Rattle.play.specs.Schedule.{numberAt, bytesOf, headBytes, recordBytes, count, startOf, marked, versionOf, torn, firstUnknown, callOf, decoded, callsFrom}
 use Rattle.play.specs.Player.{entryBytes, entryOf, transcript, played, flaw, flawOf, refusalOf, Output, output, playRule}
 use Rattle.play.proofs.Ends.{head, recordOf, p1}
 
@@ -204,3 +205,28 @@ hasty s out = output (playRule s out .result) (0 ∷ drop 1 out)
 hurries : Keeps hasty → ⊥
 unfolding playRule flawOf transcript decoded callRule callOn judged glanced smallest entry handleOn handled appendOn openOn opened stepOn stepAt steps runOn seek slotCount lawful fitness applyRule applied added dropped lookRule usedRule closeRule
 hurries h = apart (byte 0) refl (h [] (170 ∷ []))
+
+-- ---- the public parts
+
+-- the records are counted with the head, or with the torn one
+count-with-head : ((s : List ℕ) → length s / recordBytes ≡ count s) → ⊥
+count-with-head h = eqb-false 1 0 refl (h (replicate 20 0))
+
+count-with-torn : ((s : List ℕ) → suc ((length s - headBytes) / recordBytes) ≡ count s) → ⊥
+count-with-torn h = eqb-false 1 0 refl (h head)
+
+-- 24 is found before 23, or the record behind the flaw is named
+check-unknown-first : ((s : List ℕ) → unknownFirst s ≡ flawOf s) → ⊥
+unfolding flawOf seek
+check-unknown-first h = eqb-false 24 23 refl (ap (λ (f : Flaw). f .answer) (h (head ++ (recordOf 15 0 0 0 0 0 ++ (0 ∷ [])))))
+
+check-names-next : ((s : List ℕ) → flaw (flawOf s .answer) (suc (flawOf s .place)) ≡ flawOf s) → ⊥
+unfolding flawOf seek
+check-names-next h = eqb-false 1 0 refl (ap (λ (f : Flaw). f .place) (h (head ++ recordOf 15 0 0 0 0 0)))
+
+-- every answer is 0, or every one is one more
+number-of-done : ((a : Answer) → 0 ≡ number a) → ⊥
+number-of-done h = eqb-false 0 13 refl (h answer.Held)
+
+number-one-more : ((a : Answer) → suc (number a) ≡ number a) → ⊥
+number-one-more h = eqb-false 1 0 refl (h answer.Done)
