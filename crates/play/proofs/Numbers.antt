@@ -1,12 +1,12 @@
 -- Numbers in bytes: how two that stand one behind the other make one, at any width; and a run of bytes stored one by one.
-use Prim.Native.Nat.{ℕ, zero, suc, _+_, _*_, _^_, _≤_}
+use Prim.Native.Nat.{ℕ, zero, suc, _+_, _-_, _*_, _/_, _%_, _^_, _≤_, _<_}
 use mathlib.Core.Path.{_≡_, sym, ap, _∙_}
 use mathlib.Core.List.{List, _++_, append-assoc}
 use native.Mathlib.Nat.{zero-add, add-zero, suc-add, mul-assoc, mul-comm, pow-suc}
 use native.Mathlib.Omega.{arith}
-use lib.ListN.{length, getD, take, drop}
+use lib.ListN.{length, getD, set, take, drop}
 use lib.Seq.{sets, sets-eq}
-use Rattle.play.specs.Schedule.{numberAt}
+use Rattle.play.specs.Schedule.{numberAt, bytesOf}
 use Rattle.play.specs.Player.{entryOf}
 
 pub number-one : (s : List ℕ) (at : ℕ) → numberAt 1 s at ≡ getD s at 0
@@ -30,8 +30,24 @@ pub number-joined :
     (m n : ℕ) (s : List ℕ) (at : ℕ) {x y : ℕ} → x ≡ numberAt m s at → y ≡ numberAt n s (at + m) → x + 256 ^ m * y ≡ numberAt (m + n) s at
 number-joined m n s at p q = (λ i. p i + 256 ^ m * q i) ∙ sym (number-split m n s at)
 
+-- n - i bytes still to be stored: the lowest, then the rest
+pub store-next :
+    (n i v at : ℕ) (l : List ℕ) → i < n →
+    sets l (at + i) (bytesOf (n - i) v) ≡ sets (set l (at + i) (v % 256)) (at + (i + 1)) (bytesOf (n - (i + 1)) (v / 256))
+store-next n i v at l h =
+    let p : n - i ≡ suc (n - (i + 1)) = omega arith in
+    let q : suc (at + i) ≡ at + (i + 1) = omega arith in
+    ap (λ (k : ℕ). sets l (at + i) (bytesOf k v)) p
+    ∙ ap (λ (k : ℕ). sets (set l (at + i) (v % 256)) k (bytesOf (n - (i + 1)) (v / 256))) q
+
 -- an entry stored byte by byte
 pub put-entry :
     (a v at : ℕ) (l : List ℕ) → at + 9 ≤ length l →
     sets l at (entryOf a v) ≡ take at l ++ (entryOf a v ++ drop (at + 9) l)
 put-entry a v at l h = sets-eq (entryOf a v) l at h ∙ append-assoc (take at l) (entryOf a v) (drop (at + 9) l)
+
+-- none is left
+pub store-none : (n i v at : ℕ) (l : List ℕ) → n ≤ i → sets l at (bytesOf (n - i) v) ≡ l
+store-none n i v at l h =
+    let p : n - i ≡ 0 = omega arith in
+    ap (λ (k : ℕ). sets l at (bytesOf k v)) p

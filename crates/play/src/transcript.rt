@@ -4,7 +4,9 @@ ghost use mathlib.Core.Path.{_≡_};
 ghost use mathlib.Core.List.{_++_};
 ghost use Prim.Native.Nat.{_+_, _≤_};
 ghost use lib.ListN.{length, take, drop};
+ghost use lib.Seq.{sets};
 ghost use Rattle.table.specs.Answers.{number as numberRule};
+ghost use Rattle.play.specs.Schedule.{bytesOf};
 ghost use Rattle.play.specs.Player.{entryOf};
 
 pub fn number(a: Answer) -> u8
@@ -30,18 +32,25 @@ pub fn number(a: Answer) -> u8
     }
 }
 
+// Eight bytes of a number at byte `at`, the lowest first.
+fn eight(out: &mut [u8], at: usize, value: u64)
+    requires { ⌜ at + 8 ≤ length (now out) ⌝ }
+    ensures { λ _. ⌜ now (out .exit) ≡ sets (now (out .entry)) at (bytesOf 8 value) ⌝ }
+{
+    let mut v = value;
+    let mut i = 0;
+    while i < 8 {
+        out[at + i] = (v % 256) as u8;
+        v = v / 256;
+        i += 1;
+    }
+}
+
 // The entry at byte `at` of the output.
 pub(crate) fn put(out: &mut [u8], at: usize, answer: u8, value: u64)
     requires { ⌜ at + 9 ≤ length (now out) ⌝ }
     ensures { λ _. ⌜ now (out .exit) ≡ take at (now (out .entry)) ++ (entryOf answer value ++ drop (at + 9) (now (out .entry))) ⌝ }
 {
     out[at] = answer;
-    out[at + 1] = (value % 256) as u8;
-    out[at + 2] = (value / 256 % 256) as u8;
-    out[at + 3] = (value / 256 / 256 % 256) as u8;
-    out[at + 4] = (value / 256 / 256 / 256 % 256) as u8;
-    out[at + 5] = (value / 256 / 256 / 256 / 256 % 256) as u8;
-    out[at + 6] = (value / 256 / 256 / 256 / 256 / 256 % 256) as u8;
-    out[at + 7] = (value / 256 / 256 / 256 / 256 / 256 / 256 % 256) as u8;
-    out[at + 8] = (value / 256 / 256 / 256 / 256 / 256 / 256 / 256 % 256) as u8;
+    eight(out, at + 1, value);
 }

@@ -1,123 +1,32 @@
--- Nine stores, one behind the other: the entry.
-use native.Mathlib.Numerals.{towards-suc}
+-- The answer is stored, and the value's bytes behind it: the entry.
+use mathlib.Core.Path.{ap, _∙_}
+use native.Mathlib.Numerals.{add-one}
 use native.Mathlib.Omega.{arith}
-use lib.ListN.{length-set}
-use Rattle.play.proofs.Numbers.{put-entry}
 use borrow.Author.Needs.{needs}
+use lib.ListN.{length, length-set}
+use lib.Seq.{length-sets}
+use Rattle.play.proofs.Numbers.{put-entry}
 use Rattle.play.proofs.transcript.put.Statement.{statement}
 use Rattle.play.proofs.transcript.put.Tie as tie
 
 slice-write-out : tie.Need-slice-write-out
 slice-write-out c = search needs
 
-cast-out : tie.Need-cast-out
-cast-out c = search needs
+add-eight : tie.Need-add-eight
+add-eight c = search needs
 
-add-out : tie.Need-add-out
-add-out c = search needs
-
-slice-write-out-2 : tie.Need-slice-write-out-2
-slice-write-out-2 c = simp length-set (omega arith)
-
-cast-out-2 : tie.Need-cast-out-2
-cast-out-2 c = search needs
-
-add-out-2 : tie.Need-add-out-2
-add-out-2 c = search needs
-
-slice-write-out-3 : tie.Need-slice-write-out-3
-slice-write-out-3 c = simp length-set (omega arith)
-
-cast-out-3 : tie.Need-cast-out-3
-cast-out-3 c = search needs
-
-add-out-3 : tie.Need-add-out-3
-add-out-3 c = search needs
-
-slice-write-out-4 : tie.Need-slice-write-out-4
-slice-write-out-4 c = simp length-set (omega arith)
-
-cast-out-4 : tie.Need-cast-out-4
-cast-out-4 c = search needs
-
-add-out-4 : tie.Need-add-out-4
-add-out-4 c = search needs
-
-slice-write-out-5 : tie.Need-slice-write-out-5
-slice-write-out-5 c = simp length-set (omega arith)
-
-cast-out-5 : tie.Need-cast-out-5
-cast-out-5 c = search needs
-
-add-out-5 : tie.Need-add-out-5
-add-out-5 c = search needs
-
-slice-write-out-6 : tie.Need-slice-write-out-6
-slice-write-out-6 c = simp length-set (omega arith)
-
-cast-out-6 : tie.Need-cast-out-6
-cast-out-6 c = search needs
-
-add-out-6 : tie.Need-add-out-6
-add-out-6 c = search needs
-
-slice-write-out-7 : tie.Need-slice-write-out-7
-slice-write-out-7 c = simp length-set (omega arith)
-
-cast-out-7 : tie.Need-cast-out-7
-cast-out-7 c = search needs
-
-add-out-7 : tie.Need-add-out-7
-add-out-7 c = search needs
-
-slice-write-out-8 : tie.Need-slice-write-out-8
-slice-write-out-8 c = simp length-set (omega arith)
-
-cast-out-8 : tie.Need-cast-out-8
-cast-out-8 c = search needs
-
-add-out-8 : tie.Need-add-out-8
-add-out-8 c = search needs
-
-slice-write-out-9 : tie.Need-slice-write-out-9
-slice-write-out-9 c = simp length-set (omega arith)
+eight-requires : tie.Need-eight-requires
+eight-requires c κs = simp length-set (omega arith)
 
 same-length : tie.Need-same-length
-same-length c = simp length-set
+same-length c =
+    let e = c .before .before .eight .ensures in
+    ap length e ∙ simp (length-sets, length-set)
 
 returns : tie.Need-returns
 returns c =
-    let a = c .args in
-    simp towards-suc (put-entry (a .answer) (a .value) (a .at) (a .out .now) (c .pre))
+    let a = c .before .before .before .before .before .args in
+    c .before .before .eight .ensures ∙ rw add-one (put-entry (a .answer) (a .value) (a .at) (a .out .now) (c .before .before .before .before .before .pre))
 
 pub put-spec : {M : Type 1} → statement M
-put-spec =
-    tie.close
-    (tie.spec
-    slice-write-out
-    cast-out
-    add-out
-    slice-write-out-2
-    cast-out-2
-    add-out-2
-    slice-write-out-3
-    cast-out-3
-    add-out-3
-    slice-write-out-4
-    cast-out-4
-    add-out-4
-    slice-write-out-5
-    cast-out-5
-    add-out-5
-    slice-write-out-6
-    cast-out-6
-    add-out-6
-    slice-write-out-7
-    cast-out-7
-    add-out-7
-    slice-write-out-8
-    cast-out-8
-    add-out-8
-    slice-write-out-9
-    same-length
-    returns)
+put-spec = tie.close (tie.spec slice-write-out add-eight eight-requires same-length returns)
