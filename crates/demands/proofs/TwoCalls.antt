@@ -31,7 +31,7 @@ use Rattle.read.specs.declared.Handle.the-variants.{Drop, Enter, GoOn, Release,
 use Rattle.read.specs.Machine.{slotCount, logRoom, newSlot, underway, isGone}
 use Rattle.read.specs.Admission.{column, entry, notNow}
 use Rattle.read.specs.Handles.{smallest, handleSigns, handleOn, handled, withDue}
-use Rattle.read.specs.Calls.{Lent, lent, slotAt, refusal, handleReply, createReply, createSigns, firstFree}
+use Rattle.read.specs.Calls.{Lent, lent, slotAt, handleReply, createReply, createSigns, firstFree}
 use Rattle.write.specs.declared.Moved.{Moved}
 use Rattle.write.specs.declared.Call.{Call}
 use Rattle.write.specs.declared.Call.the-variants.{Create, On, Append, Open, Step, Run}

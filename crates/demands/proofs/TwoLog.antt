@@ -9,7 +9,7 @@ use native.Mathlib.Omega.{arith}
 use lib.ListN.{length, getD, set, take, drop, length-set, length-drop, List·getD-append}
 use lib.Seq.{getD-set-same, getD-set-other, getD-drop, getD-take, length-take-le, take-length, drop-length}
 use borrow.Author.Tests.{lt-ltb, le-leb}
-use Rattle.table.specs.Copy.{words, applied, closed, Fit}
+use Rattle.table.specs.Copy.{closed, Fit}
 use Rattle.table.specs.Order.{Op, after}
 use Rattle.table.proofs.Cases.{close-room, apply-made}
 use Rattle.table.proofs.CopyFit.{fit-fits}

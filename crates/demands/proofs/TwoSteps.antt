@@ -8,7 +8,7 @@ use native.Mathlib.Omega.{arith}
 use native.Mathlib.Nat.{le-refl, le-of-eq}
 use lib.ListN.{length, getD, drop, replicate, length-set}
 use lib.Seq.{drop-cons, drop-length}
-use Rattle.table.specs.Copy.{zeros, words, Fit}
+use Rattle.table.specs.Copy.{zeros, Fit}
 use Rattle.table.specs.Order.{Op, empty, after}
 use Rattle.read.specs.declared.Phase.{Phase}
 use Rattle.read.specs.declared.Phase.the-variants.{Idle, Begin, Poll, Copy, Drain, Keep, Swap, Snap, Null, Lock, LastSnap, LastPoll, Finish, Gone}

@@ -1,13 +1,13 @@
 -- The wrong machines: of each a demand, or the known ends, is false, by a history that is computed. A comment names the field that
 -- it breaks.
 use Prim.Native.Nat.{ℕ}
-use mathlib.Core.Path.{_≡_, refl, sym, ap}
+use mathlib.Core.Path.{_≡_, refl, sym}
 use mathlib.Core.Bool.{true, false, true≢false}
 use mathlib.Core.List.{List, [], _∷_, _++_}
 use native.Mathlib.Omega.{arith}
-use borrow.Author.Tests.{eqb-false}
 use lib.ListN.{getD, replicate}
-use lib.Dec.{eqb, lit≤}
+use lib.Dec.{lit≤}
+use Rattle.table.proofs.Computes.{apart}
 use Rattle.read.specs.declared.Handle.the-variants.{Drop, Enter, Release}
 use Rattle.write.specs.declared.Opening.the-variants.{Publish, Try, Take}
 use Rattle.write.specs.declared.Call.{Call}
@@ -22,10 +22,6 @@ use Rattle.demands.specs.WrongMachines.{withStep, passesReaders, holdsAl
 use Rattle.demands.proofs.Computes.{rules}
 
 -- ---- what the proofs are made of
-
--- a number read off two things that differs, though they are said to be equal
-apart : {A : Type 0} {x y : A} (read : A → ℕ) → eqb (read x) (read y) ≡ false → x ≡ y → ⊥
-apart {x = x} {y = y} read d e = eqb-false (read x) (read y) d (ap read e)
 
 never : false ≡ true → ⊥
 never e = true≢false (sym e)

@@ -13,7 +13,7 @@ use Rattle.read.specs.Calls.{slotAt}
 use Rattle.read.specs.declared.Handle.the-variants.{LookUp}
 use Rattle.write.specs.declared.Call.{Call}
 use Rattle.write.specs.declared.Call.the-variants.{On}
-use Rattle.demands.specs.History.{Machine, World, Seen, Moment, reply, answerOf, valueOf, reached}
+use Rattle.demands.specs.History.{Machine, World, Moment, reply, answerOf, valueOf, reached}
 
 -- guard j of slot i is open, in a world
 abbrev pub guardOpen : World → ℕ → ℕ → Type 0

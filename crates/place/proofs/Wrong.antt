@@ -1,29 +1,23 @@
 -- Wrong releases, and for each a proof that the promise is false of it: one record where the two differ. The three functions of this
 -- crate make the same promise, of the answer and the record after it.
 use Prim.Native.Nat.{ℕ}
-use mathlib.Core.Path.{_≡_, refl, ap}
+use mathlib.Core.Path.{_≡_, refl}
 use mathlib.Core.Bool.{true, false}
-use mathlib.Core.List.{List, [], _∷_}
-use borrow.Author.Tests.{eqb-false}
-use lib.Dec.{eqb}
+use mathlib.Core.List.{[], _∷_}
 use lib.ListN.{getD}
 use Rattle.table.specs.Answers.{number}
-use Rattle.table.specs.Seek.{seek}
+use Rattle.table.proofs.Computes.{apart}
 use Rattle.table.specs.declared.Answer.the-variants.{Done, NoGuard}
 use Rattle.read.specs.declared.Due.the-variants.{Nothing}
-use Rattle.read.specs.declared.Guard.{Guard}
 use Rattle.read.specs.declared.Slot.{Slot}
 use Rattle.read.specs.Machine.{shut}
 use Rattle.read.specs.Handles.{released}
+use Rattle.read.proofs.Computes.{rules}
 use Rattle.place.specs.declared.Released.{Released}
 use Rattle.place.specs.Release.{releaseRule}
 
 abbrev Keeps : (ℕ → Slot → Released) → Type 0
 Keeps release = (guard : ℕ) (s : Slot) → release guard s ≡ releaseRule guard s
-
--- a number read off two results that differs, though they are said to be equal
-apart : {x y : Released} (read : Released → ℕ) → eqb (read x) (read y) ≡ false → x ≡ y → ⊥
-apart {x} {y} read e p = eqb-false (read x) (read y) e (ap read p)
 
 -- a handle inside, with guard 0 alone
 abbrev inside : Slot
@@ -36,7 +30,7 @@ leavesEpoch guard s =
     record { answer = r .answer; slot = record { used = s .used; epoch = s .epoch; guards = r .slot .guards; due = s .due } }
 
 leaves-epoch : Keeps leavesEpoch → ⊥
-unfolding releaseRule seek
+unfolding releaseRule rules
 leaves-epoch h = apart (λ r. r .slot .epoch) refl (h 0 inside)
 
 -- the guard stays open
@@ -46,7 +40,7 @@ leavesGuard guard s =
     record { answer = r .answer; slot = record { used = s .used; epoch = r .slot .epoch; guards = s .guards; due = s .due } }
 
 leaves-guard : Keeps leavesGuard → ⊥
-unfolding releaseRule seek
+unfolding releaseRule rules
 leaves-guard h = apart (λ r. elim (getD (r .slot .guards) 0 shut .opened) [ true ↦ 1 | false ↦ 0 ]) refl (h 0 inside)
 
 -- a guard that is not open is released too
@@ -54,7 +48,7 @@ abbrev releasesShut : ℕ → Slot → Released
 releasesShut guard s = record { answer = Done; slot = released guard s }
 
 releases-shut : Keeps releasesShut → ⊥
-unfolding releaseRule seek
+unfolding releaseRule rules
 releases-shut h = apart (λ r. number (r .answer)) refl (h 1 inside)
 
 -- every release is refused
@@ -62,5 +56,5 @@ abbrev refusesAll : ℕ → Slot → Released
 refusesAll guard s = record { answer = NoGuard; slot = s }
 
 refuses-all : Keeps refusesAll → ⊥
-unfolding releaseRule seek
+unfolding releaseRule rules
 refuses-all h = apart (λ r. number (r .answer)) refl (h 0 inside)

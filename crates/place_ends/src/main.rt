@@ -42,11 +42,7 @@ fn say(name: &[u8], x: u64) {
 
 // The two answers that a release has; any other is no answer of it.
 fn number(a: Answer) -> u64 {
-    match a {
-        Answer::Done => 0,
-        Answer::NoGuard => 9,
-        _ => 99,
-    }
+    table::number(a) as u64
 }
 
 fn say_guard(g: Guard) {

@@ -5,7 +5,6 @@ use denote.Ref.{now}
 use Rattle.play.specs.Player.{Output}
 use Rattle.play.proofs.schedule.count.Reads as schedule-count
 use Rattle.play.proofs.schedule.check.Reads as schedule-check
-use Rattle.play.proofs.transcript.number.Reads as transcript-number
 use Rattle.play.proofs.lrt_play.Reads as lrt-play
 
 schedule-count-determined : (κs : _) (a : _) (r q : _) (s t : _) → schedule-count.Post κs a r s → schedule-count.Post κs a q t → r ≡ q
@@ -13,9 +12,6 @@ schedule-count-determined κs a r q s t h l = h ∙ sym l
 
 schedule-check-determined : (κs : _) (a : _) (r q : _) (s t : _) → schedule-check.Post κs a r s → schedule-check.Post κs a q t → r ≡ q
 schedule-check-determined κs a r q s t h l = h ∙ sym l
-
-transcript-number-determined : (κs : _) (a : _) (r q : _) (s t : _) → transcript-number.Post κs a r s → transcript-number.Post κs a q t → r ≡ q
-transcript-number-determined κs a r q s t h l = h ∙ sym l
 
 -- what comes back, and the whole output
 lrt-play-determined :

@@ -3,17 +3,9 @@ use Prim.Native.Nat.{ℕ}
 use mathlib.Core.Path.{_≡_, refl}
 use mathlib.Core.List.{List, [], _∷_, _++_, map}
 use lib.ListN.{replicate}
-use Rattle.table.specs.Seek.{seek}
-use Rattle.table.specs.Copy.{added, dropped, applied, lawful, fitness, applyRule, lookRule, usedRule, closeRule}
-use Rattle.read.specs.Machine.{slotCount, glanced, judged}
-use Rattle.read.specs.Admission.{entry}
-use Rattle.read.specs.Handles.{smallest, handled, handleOn}
-use Rattle.write.specs.Steps.{stepAt}
-use Rattle.write.specs.Begins.{appendOn, opened, openOn}
-use Rattle.write.specs.Runs.{stepOn, steps, runOn}
-use Rattle.write.specs.Machine.{callOn, callRule}
-use Rattle.play.specs.Schedule.{bytesOf, decoded}
-use Rattle.play.specs.Player.{transcript, flawOf, refusalOf, output, playRule}
+use Rattle.play.specs.Schedule.{bytesOf}
+use Rattle.play.specs.Player.{refusalOf, output, playRule}
+use Rattle.play.proofs.Computes.{rules}
 
 -- the mark and the version
 abbrev pub head : List ℕ
@@ -38,7 +30,7 @@ p1-plays :
     playRule p1 (replicate 65 170)
     ≡ output (record { answer = 0; written = 63 })
     (done 1 ++ (done 0 ++ (done 0 ++ (done 17 ++ (done 0 ++ (done 0 ++ (done 3 ++ (170 ∷ 170 ∷ []))))))))
-unfolding playRule flawOf transcript decoded callRule callOn judged glanced smallest entry handleOn handled appendOn openOn opened stepOn stepAt steps runOn seek slotCount lawful fitness applyRule applied added dropped lookRule usedRule closeRule
+unfolding rules
 p1-plays = refl
 
 -- ---- what refuses a file
@@ -67,5 +59,5 @@ refusals =
     ∷ []
 
 refusals-found : map (λ (c : Refusal). refusalOf (c .file) (c .room)) refusals ≡ map (λ (c : Refusal). c .answer) refusals
-unfolding flawOf seek
+unfolding rules
 refusals-found = refl

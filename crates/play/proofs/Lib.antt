@@ -6,5 +6,6 @@ pub mod Due
 pub mod StepsDue
 pub mod Plays
 pub mod Determined
+pub mod Computes
 pub mod Ends
 pub mod Wrong

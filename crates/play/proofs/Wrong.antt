@@ -7,26 +7,21 @@ use mathlib.Core.List.{List, [], _∷_, _++_}
 use borrow.Author.Tests.{eqb-false}
 use lib.Dec.{eqb, ltb, leb}
 use lib.ListN.{length, getD, take, drop, replicate}
-use Rattle.table.specs.Seek.{seek}
+use Rattle.table.proofs.Computes.{apart}
 use Rattle.table.specs.Answers.{number}
-use Rattle.table.specs.Copy.{words, added, dropped, applied, lawful, fitness, applyRule, lookRule, usedRule, closeRule}
-use Rattle.table.specs.declared.Answer.{Answer}
+use Rattle.table.specs.Copy.{words}
 use Rattle.table.specs.declared.Answer.the-variants as answer
 use Rattle.read.specs.declared.State.{State}
 use Rattle.read.specs.declared.Reply.{Reply}
-use Rattle.read.specs.Machine.{slotCount, logWords, glanced, judged, fresh}
-use Rattle.read.specs.Admission.{entry}
-use Rattle.read.specs.Handles.{smallest, handled, handleOn}
+use Rattle.read.specs.Machine.{logWords, fresh}
 use Rattle.read.specs.Calls.{Lent, lent}
 use Rattle.write.specs.declared.Call.{Call}
 use Rattle.write.specs.declared.Call.the-variants.{Create, On, Append, Open, Step, Run}
-use Rattle.write.specs.Steps.{stepAt}
-use Rattle.write.specs.Begins.{appendOn, opened, openOn}
-use Rattle.write.specs.Runs.{stepOn, steps, runOn}
-use Rattle.write.specs.Machine.{callOn, callRule}
+use Rattle.write.specs.Machine.{callRule}
 use Rattle.play.specs.declared.Flaw.{Flaw}
 use Rattle.play.specs.Schedule.{numberAt, bytesOf, headBytes, recordBytes, count, startOf, marked, versionOf, torn, firstUnknown, callOf, decoded, callsFrom}
 use Rattle.play.specs.Player.{entryBytes, entryOf, transcript, played, flaw, flawOf, refusalOf, Output, output, playRule}
+use Rattle.play.proofs.Computes.{rules}
 use Rattle.play.proofs.Ends.{head, recordOf, p1}
 
 -- ---- the promise, of any player
@@ -36,10 +31,6 @@ Player = List ℕ → List ℕ → Output
 
 abbrev Keeps : Player → Type 0
 Keeps play = (s out : List ℕ) → play s out ≡ playRule s out
-
--- a number read off two outputs that differs, though they are said to be equal
-apart : {x y : Output} (read : Output → ℕ) → eqb (read x) (read y) ≡ false → x ≡ y → ⊥
-apart {x} {y} read e p = eqb-false (read x) (read y) e (ap read p)
 
 abbrev byte : ℕ → Output → ℕ
 byte i o = getD (o .bytes) i 0
@@ -112,7 +103,7 @@ keyElsewhere s i =
     (numberAt 7 s (a + 4) + 256 ^ 7 * getD s (a + 12) 0) (numberAt 8 s (a + 12))
 
 key-elsewhere : Keeps (playBy flawOf keyElsewhere callRule entryBytes entryOf) → ⊥
-unfolding playRule flawOf transcript decoded callRule callOn judged glanced smallest entry handleOn handled appendOn openOn opened stepOn stepAt steps runOn seek slotCount lawful fitness applyRule applied added dropped lookRule usedRule closeRule
+unfolding rules
 key-elsewhere h = apart (byte 55) refl (h p1 (replicate 63 0))
 
 -- ---- a value is cut to 32 bits
@@ -127,7 +118,7 @@ large =
     ++ (recordOf 3 1 0 0 0 0 ++ (recordOf 4 1 0 0 0 0 ++ recordOf 6 1 0 0 7 0))))))
 
 cut-to-32 : Keeps (playBy flawOf decoded callRule entryBytes cutTo32) → ⊥
-unfolding playRule flawOf transcript decoded callRule callOn judged glanced smallest entry handleOn handled appendOn openOn opened stepOn stepAt steps runOn seek slotCount lawful fitness applyRule applied added dropped lookRule usedRule closeRule
+unfolding rules
 cut-to-32 h = apart (byte 59) refl (h large (replicate 63 0))
 
 -- ---- 24 is found before 23
@@ -144,13 +135,13 @@ unknownFirst s =
     ]
 
 unknown-first : Keeps (playBy unknownFirst decoded callRule entryBytes entryOf) → ⊥
-unfolding playRule flawOf transcript decoded callRule callOn judged glanced smallest entry handleOn handled appendOn openOn opened stepOn stepAt steps runOn seek slotCount lawful fitness applyRule applied added dropped lookRule usedRule closeRule
+unfolding rules
 unknown-first h = apart (λ o. o .result .answer) refl (h (head ++ (recordOf 15 0 0 0 0 0 ++ (0 ∷ []))) [])
 
 -- ---- an entry has ten bytes
 
 ten-bytes : Keeps (playBy flawOf decoded callRule 10 (λ a v. a ∷ bytesOf 9 v)) → ⊥
-unfolding playRule flawOf transcript decoded callRule callOn judged glanced smallest entry handleOn handled appendOn openOn opened stepOn stepAt steps runOn seek slotCount lawful fitness applyRule applied added dropped lookRule usedRule closeRule
+unfolding rules
 ten-bytes h = apart (λ o. o .result .written) refl (h (head ++ recordOf 1 0 0 0 0 0) (replicate 10 0))
 
 -- ---- a machine that does nothing
@@ -159,7 +150,7 @@ abbrev idleMachine : Machine
 idleMachine k st l r g = lent (record { answer = answer.Done; value = 0; state = st }) l r g
 
 idle-machine : Keeps (playBy flawOf decoded idleMachine entryBytes entryOf) → ⊥
-unfolding playRule flawOf transcript decoded callRule callOn judged glanced smallest entry handleOn handled appendOn openOn opened stepOn stepAt steps runOn seek slotCount lawful fitness applyRule applied added dropped lookRule usedRule closeRule
+unfolding rules
 idle-machine h = apart (byte 1) refl (h (head ++ recordOf 1 0 0 0 0 0) (replicate 9 0))
 
 -- ---- a run that invents its value
@@ -178,7 +169,7 @@ inventing k st l r g =
     lent (record { answer = o .made .answer; value = invented k (o .made .value); state = o .made .state }) (o .left) (o .right) (o .log)
 
 invents : Keeps (playBy flawOf decoded inventing entryBytes entryOf) → ⊥
-unfolding playRule flawOf transcript decoded callRule callOn judged glanced smallest entry handleOn handled appendOn openOn opened stepOn stepAt steps runOn seek slotCount lawful fitness applyRule applied added dropped lookRule usedRule closeRule
+unfolding rules
 invents h = apart (byte 28) refl (h p1 (replicate 63 0))
 
 -- ---- the output past the transcript is touched
@@ -187,7 +178,7 @@ abbrev wiping : Player
 wiping s out = let o = playRule s out in output (o .result) (take (o .result .written) (o .bytes) ++ replicate (length out) 0)
 
 wipes : Keeps wiping → ⊥
-unfolding playRule flawOf transcript decoded callRule callOn judged glanced smallest entry handleOn handled appendOn openOn opened stepOn stepAt steps runOn seek slotCount lawful fitness applyRule applied added dropped lookRule usedRule closeRule
+unfolding rules
 wipes h = apart (byte 9) refl (h (head ++ recordOf 1 0 0 0 0 0) (replicate 10 170))
 
 -- ---- every file is refused; a refused file is written for
@@ -196,14 +187,14 @@ abbrev refusing : Player
 refusing s out = output (record { answer = 21; written = 0 }) out
 
 refuses : Keeps refusing → ⊥
-unfolding playRule flawOf transcript decoded callRule callOn judged glanced smallest entry handleOn handled appendOn openOn opened stepOn stepAt steps runOn seek slotCount lawful fitness applyRule applied added dropped lookRule usedRule closeRule
+unfolding rules
 refuses h = apart (λ o. o .result .answer) refl (h head [])
 
 abbrev hasty : Player
 hasty s out = output (playRule s out .result) (0 ∷ drop 1 out)
 
 hurries : Keeps hasty → ⊥
-unfolding playRule flawOf transcript decoded callRule callOn judged glanced smallest entry handleOn handled appendOn openOn opened stepOn stepAt steps runOn seek slotCount lawful fitness applyRule applied added dropped lookRule usedRule closeRule
+unfolding rules
 hurries h = apart (byte 0) refl (h [] (170 ∷ []))
 
 -- ---- the public parts
@@ -217,16 +208,9 @@ count-with-torn h = eqb-false 1 0 refl (h head)
 
 -- 24 is found before 23, or the record behind the flaw is named
 check-unknown-first : ((s : List ℕ) → unknownFirst s ≡ flawOf s) → ⊥
-unfolding flawOf seek
+unfolding rules
 check-unknown-first h = eqb-false 24 23 refl (ap (λ (f : Flaw). f .answer) (h (head ++ (recordOf 15 0 0 0 0 0 ++ (0 ∷ [])))))
 
 check-names-next : ((s : List ℕ) → flaw (flawOf s .answer) (suc (flawOf s .place)) ≡ flawOf s) → ⊥
-unfolding flawOf seek
+unfolding rules
 check-names-next h = eqb-false 1 0 refl (ap (λ (f : Flaw). f .place) (h (head ++ recordOf 15 0 0 0 0 0)))
-
--- every answer is 0, or every one is one more
-number-of-done : ((a : Answer) → 0 ≡ number a) → ⊥
-number-of-done h = eqb-false 0 13 refl (h answer.Held)
-
-number-one-more : ((a : Answer) → suc (number a) ≡ number a) → ⊥
-number-one-more h = eqb-false 1 0 refl (h answer.Done)

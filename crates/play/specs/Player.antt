@@ -1,15 +1,13 @@
 -- The player: the transcript of a schedule's calls from a fresh machine.
-use Prim.Native.Nat.{ℕ, zero, suc, _+_, _*_}
-use mathlib.Core.Bool.{Bool, true, false, not}
+use Prim.Native.Nat.{ℕ, _+_, _*_}
+use mathlib.Core.Bool.{true, false}
 use mathlib.Core.List.{List, [], _∷_, _++_}
-use lib.ListN.{length, getD, drop, replicate}
+use lib.ListN.{length, drop, replicate}
 use lib.Dec.{eqb, ltb, leb}
 use Rattle.table.specs.Answers.{number}
 use Rattle.table.specs.Copy.{words}
 use Rattle.read.specs.declared.State.{State}
-use Rattle.read.specs.declared.Reply.{Reply}
 use Rattle.read.specs.Machine.{logWords, fresh}
-use Rattle.read.specs.Calls.{Lent}
 use Rattle.write.specs.declared.Call.{Call}
 use Rattle.write.specs.Machine.{callRule}
 use Rattle.play.specs.declared.Played.{Played}

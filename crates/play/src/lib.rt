@@ -58,7 +58,7 @@ fn play_on(
             let m = steps::advance(c, slots[k], snaps[k], left, right, log);
             let a = m.answer;
             // A held poll changes nothing.
-            if transcript::number(a) == HELD {
+            if table::number(a) == HELD {
                 transcript::put(out, ENTRY * i, HELD, turns::step_value(call, n, m));
                 i += 1;
                 n = 0;
@@ -78,7 +78,7 @@ fn play_on(
             transcript::put(
                 out,
                 ENTRY * i,
-                transcript::number(a),
+                table::number(a),
                 turns::step_value(call, n, m),
             );
             i += 1;
@@ -88,7 +88,7 @@ fn play_on(
         let k = turns::target(call, n);
         if SLOTS <= k {
             let a = turns::absent(call, c);
-            transcript::put(out, ENTRY * i, transcript::number(a), 0);
+            transcript::put(out, ENTRY * i, table::number(a), 0);
             i += 1;
             n = 0;
             continue;
@@ -103,7 +103,7 @@ fn play_on(
             continue;
         }
         let a = t.answer;
-        transcript::put(out, ENTRY * i, transcript::number(a), t.value);
+        transcript::put(out, ENTRY * i, table::number(a), t.value);
         i += 1;
         n = 0;
     }

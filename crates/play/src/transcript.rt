@@ -1,36 +1,11 @@
 // A transcript's entries: an answer in one byte, and a value in eight.
-use table::Answer;
 ghost use mathlib.Core.Path.{_≡_};
 ghost use mathlib.Core.List.{_++_};
 ghost use Prim.Native.Nat.{_+_, _≤_};
 ghost use lib.ListN.{length, take, drop};
 ghost use lib.Seq.{sets};
-ghost use Rattle.table.specs.Answers.{number as numberRule};
 ghost use Rattle.play.specs.Schedule.{bytesOf};
 ghost use Rattle.play.specs.Player.{entryOf};
-
-pub fn number(a: Answer) -> u8
-    ensures { λ r. ⌜ r ≡ numberRule a ⌝ }
-{
-    match a {
-        Answer::Done => 0,
-        Answer::Length => 1,
-        Answer::Broken => 2,
-        Answer::Gone => 3,
-        Answer::NoSlot => 4,
-        Answer::Operation => 5,
-        Answer::NotNow => 6,
-        Answer::Locked => 7,
-        Answer::GuardsOpen => 8,
-        Answer::NoGuard => 9,
-        Answer::FourGuards => 10,
-        Answer::LogFull => 11,
-        Answer::SlotsFull => 12,
-        Answer::Held => 13,
-        Answer::Declined => 14,
-        Answer::None => 15,
-    }
-}
 
 // Eight bytes of a number at byte `at`, the lowest first.
 fn eight(out: &mut [u8], at: usize, value: u64)

@@ -1,6 +1,5 @@
 // One turn of the player: a call on the one slot that it looks at. A create passes one used slot a turn, and a run makes one step
 // a turn; every other call takes one turn.
-use crate::transcript;
 use read::Control;
 use read::Handle;
 use read::Slot;
@@ -51,7 +50,7 @@ fn is_made(m: Moved) -> bool
     ensures { λ r. ⌜ r ≡ isMade m ⌝ }
 {
     let a = m.answer;
-    transcript::number(a) == 0
+    table::number(a) == 0
 }
 
 // A run goes on behind a step that was made and did not end the call.

@@ -7,4 +7,5 @@ pub mod Ends
 pub mod Touch
 pub mod Parity
 pub mod Determined
+pub mod Computes
 pub mod Wrong

@@ -1,14 +1,13 @@
 -- Wrong programs, as definitions on the rules' values, and for each a proof that the promise is false of it: one call where the two differ.
 use Prim.Native.Nat.{ℕ, _+_, _-_, _^_}
-use mathlib.Core.Path.{_≡_, refl, ap}
+use mathlib.Core.Path.{_≡_, refl}
 use mathlib.Core.Bool.{Bool, true, false, not, _&&_, _||_}
 use mathlib.Core.List.{List, [], _∷_, _++_}
-use borrow.Author.Tests.{eqb-false}
 use lib.Dec.{eqb, ltb}
 use lib.ListN.{length, getD, set, replicate}
 use Rattle.table.specs.Answers.{number}
 use Rattle.table.specs.Seek.{seek}
-use Rattle.table.specs.Copy.{words, zeros, lawful, lookRule, usedRule}
+use Rattle.table.specs.Copy.{words, zeros, usedRule}
 use Rattle.table.specs.declared.Answer.the-variants as answer
 use Rattle.read.specs.declared.Due.{Due}
 use Rattle.read.specs.declared.Due.the-variants.{Nothing, Load, Restore}
@@ -26,10 +25,12 @@ use Rattle.read.specs.declared.Verdict.the-variants.{Admitted, Refused}
 use Rattle.read.specs.declared.Signs.{Signs}
 use Rattle.read.specs.declared.Made.{Made}
 use Rattle.read.specs.declared.Reply.{Reply}
-use Rattle.read.specs.Machine.{slotCount, guardCount, logWords, shut, noGuards, isOpen, standsRight, putGuard, same, firstGuard, anyOpen, allOpen, isDue, isLoad, noSlot, newSlot, isGone, underway, locks, nulls, sized, wholeControl, glanced, judged, fresh}
+use Rattle.read.specs.Machine.{guardCount, logWords, shut, noGuards, isOpen, standsRight, putGuard, same, firstGuard, anyOpen, allOpen, isDue, isLoad, noSlot, newSlot, isGone, underway, locks, nulls, sized, wholeControl, glanced, judged, fresh}
 use Rattle.read.specs.Admission.{column, entry}
-use Rattle.read.specs.Handles.{smallest, handleSigns, bumped, withDue, freed, loaded, entered, wentOn, released, copyOf, guardedCopy, handled, handleOn}
-use Rattle.read.specs.Calls.{slotAt, withSlot, refusal, Lent, lent, firstFree, handleRule, createRule, throughRule, viewRule, pairRule, startRule}
+use Rattle.read.specs.Handles.{smallest, handleSigns, bumped, withDue, freed, loaded, entered, wentOn, released, copyOf, guardedCopy, handleOn}
+use Rattle.read.specs.Calls.{slotAt, withSlot, refusal, Lent, lent, firstFree, handleRule, createRule, viewRule, pairRule, startRule}
+use Rattle.table.proofs.Computes.{apart}
+use Rattle.read.proofs.Computes.{rules}
 
 -- ---- the promises, of any program: its result is the rule's at all arguments
 
@@ -55,15 +56,6 @@ abbrev Keeps7 : {A B C D E F G R : Type 0} → (A → B → C → D → E → F 
 Keeps7 {A = A} rule f = (a : A) → Keeps6 (rule a) (f a)
 
 -- ---- what the witnesses are made of
-
--- a number read off two results that differs, though they are said to be equal
-apart : {A : Type 0} {x y : A} (read : A → ℕ) → eqb (read x) (read y) ≡ false → x ≡ y → ⊥
-apart {x = x} {y = y} read d e = eqb-false (read x) (read y) d (ap read e)
-
--- all that a witness computes with
-rules : Type 0
-unfolding seek slotCount lawful lookRule usedRule entry smallest glanced judged handled handleOn handleRule createRule throughRule startRule
-rules = Unit {0}
 
 -- what is read off a result
 abbrev bit : Bool → ℕ

@@ -1,8 +1,8 @@
 -- The reader's calls on the whole machine: judged on all of it, and changing one slot.
 use Prim.Native.Nat.{ℕ}
-use mathlib.Core.Bool.{Bool, true, false, not}
+use mathlib.Core.Bool.{true, false, not}
 use mathlib.Core.List.{List, []}
-use lib.ListN.{getD, set, length, replicate}
+use lib.ListN.{getD, set}
 use lib.Dec.{eqb, ltb, leb}
 use Rattle.table.specs.Seek.{seek}
 use Rattle.table.specs.Copy.{zeros, usedRule, lookRule}
@@ -13,10 +13,8 @@ use Rattle.read.specs.declared.Control.{Control}
 use Rattle.read.specs.declared.State.{State}
 use Rattle.read.specs.declared.Handle.{Handle}
 use Rattle.read.specs.declared.Handle.the-variants.{LookUp}
-use Rattle.read.specs.declared.Verdict.{Verdict}
 use Rattle.read.specs.declared.Verdict.the-variants.{Admitted, Refused}
 use Rattle.read.specs.declared.Signs.{Signs}
-use Rattle.read.specs.declared.Made.{Made}
 use Rattle.read.specs.declared.Reply.{Reply}
 use Rattle.read.specs.Machine.{slotCount, noSlot, newSlot, sized, judged, fresh}
 use Rattle.read.specs.Admission.{createColumn, entry}

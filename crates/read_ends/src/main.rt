@@ -18,24 +18,7 @@ const TOP: u64 = 18446744073709551615;
 // ---- numbers
 
 fn number(a: Answer) -> u64 {
-    match a {
-        Answer::Done => 0,
-        Answer::Length => 1,
-        Answer::Broken => 2,
-        Answer::Gone => 3,
-        Answer::NoSlot => 4,
-        Answer::Operation => 5,
-        Answer::NotNow => 6,
-        Answer::Locked => 7,
-        Answer::GuardsOpen => 8,
-        Answer::NoGuard => 9,
-        Answer::FourGuards => 10,
-        Answer::LogFull => 11,
-        Answer::SlotsFull => 12,
-        Answer::Held => 13,
-        Answer::Declined => 14,
-        Answer::None => 15,
-    }
+    table::number(a) as u64
 }
 
 fn due_number(d: Due) -> u64 {

@@ -3,6 +3,7 @@
 use mathlib.Core.Path.{_≡_, sym, ap, _∙_}
 use denote.Ref.{now}
 use Rattle.table.specs.Copy.{Out}
+use Rattle.table.proofs.number.Reads as number
 use Rattle.table.proofs.fit.Reads as fit
 use Rattle.table.proofs.lawful.Reads as lawful
 use Rattle.table.proofs.zero.Reads as zero
@@ -17,6 +18,9 @@ use Rattle.table.proofs.used.Reads as used
 -- two outcomes that are both what a rule says have the same answer and the same words
 same : {x y o : Out} → x ≡ o → y ≡ o → (x .answer ≡ y .answer) × (x .copy ≡ y .copy)
 same h l = (ap (λ (z : Out). z .answer) (h ∙ sym l), ap (λ (z : Out). z .copy) (h ∙ sym l))
+
+number-determined : (κs : _) (a : _) (r q : _) (s t : _) → number.Post κs a r s → number.Post κs a q t → r ≡ q
+number-determined κs a r q s t h l = h ∙ sym l
 
 fit-determined : (κs : _) (a : _) (r q : _) (s t : _) → fit.Post κs a r s → fit.Post κs a q t → r ≡ q
 fit-determined κs a r q s t h l = h ∙ sym l

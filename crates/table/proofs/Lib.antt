@@ -14,4 +14,5 @@ pub mod CopyLook
 pub mod CopyMap
 pub mod CopyBelow
 pub mod Determined
+pub mod Computes
 pub mod Wrong

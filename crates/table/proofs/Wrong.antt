@@ -1,18 +1,21 @@
 -- Wrong programs, as definitions on lists, and for each a proof that the promise is false of it: one call where the two differ.
 use Prim.Native.Nat.{ℕ, zero, suc, _+_, _-_, _*_, _^_, _%_}
-use mathlib.Core.Path.{_≡_, refl, ap}
+use mathlib.Core.Path.{_≡_, refl}
 use mathlib.Core.Bool.{Bool, true, false, _&&_, _||_}
 use mathlib.Core.List.{List, [], _∷_, _++_}
-use borrow.Author.Tests.{eqb-false}
 use lib.ListN.{length, getD, take, drop, set, replicate}
 use lib.Dec.{eqb, leb, ltb}
 use Rattle.table.specs.declared.Answer.{Answer}
 use Rattle.table.specs.declared.Answer.the-variants.{Done, Length, Broken, Operation}
 use Rattle.table.specs.Answers.{number}
 use Rattle.table.specs.Seek.{seek}
-use Rattle.table.specs.Copy.{pairs, words, entries, spill, keyAt, countAt, usedOf, pairOf, placeOf, present, opened, closed, inserted, placed, added, dropped, removed, zeros, applied, lawful, fitness, fits, Out, applyRule, lookRule, usedRule, closeRule}
+use Rattle.table.specs.Copy.{pairs, words, entries, spill, keyAt, countAt, usedOf, pairOf, placeOf, present, opened, closed, inserted, placed, added, dropped, removed, zeros, lawful, fitness, fits, Out, applyRule, lookRule, usedRule, closeRule}
+use Rattle.table.proofs.Computes.{rules, apart}
 
 -- ---- the promises, of any program
+
+abbrev NumberPromise : (Answer → ℕ) → Type 0
+NumberPromise f = (a : Answer) → f a ≡ number a
 
 abbrev FitPromise : (List ℕ → Answer) → Type 0
 FitPromise f = (w : List ℕ) → f w ≡ fitness w
@@ -46,15 +49,6 @@ UsedPromise f = (w : List ℕ) → f w ≡ usedRule w
 
 -- ---- what the witnesses are made of
 
--- a number read off two results that differs, though they are said to be equal
-apart : {A : Type 0} {x y : A} (read : A → ℕ) → eqb (read x) (read y) ≡ false → x ≡ y → ⊥
-apart {x = x} {y = y} read d e = eqb-false (read x) (read y) d (ap read e)
-
--- all that a witness computes with
-rules : Type 0
-unfolding seek added dropped applied lawful fitness applyRule lookRule usedRule closeRule
-rules = Unit {0}
-
 -- a copy that begins with these words
 abbrev copyOf : List ℕ → List ℕ
 copyOf ws = ws ++ replicate (words - length ws) 0
@@ -80,6 +74,22 @@ behindLast p (suc n) = elim (p n) [ true ↦ suc n | false ↦ behindLast p n ]
 -- the last used pair that has the key
 abbrev lastPair : ℕ → List ℕ → ℕ
 lastPair key w = behindLast (λ i. eqb (keyAt w i) key) (entries w) - 1
+
+-- ---- number
+
+-- every answer is done
+abbrev allDone : Answer → ℕ
+allDone a = 0
+
+allDone-wrong : NumberPromise allDone → ⊥
+allDone-wrong h = apart (λ n. n) refl (h Broken)
+
+-- counted from 1
+abbrev fromOne : Answer → ℕ
+fromOne a = suc (number a)
+
+fromOne-wrong : NumberPromise fromOne → ⊥
+fromOne-wrong h = apart (λ n. n) refl (h Done)
 
 -- ---- fit
 

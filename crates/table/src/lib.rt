@@ -4,6 +4,7 @@ ghost use mathlib.Core.Bool.{true, false};
 ghost use mathlib.Core.List.{_++_};
 ghost use Prim.Native.Nat.{_+_, _*_, _≤_};
 ghost use lib.ListN.{length, take, drop};
+ghost use Rattle.table.specs.Answers.{number as numberRule};
 ghost use Rattle.table.specs.Copy.{entries, pairs, passes as passesRule, first as firstRule, grown as grownRule, opened, closeRule, zeros, added, dropped, applied, lawful as lawfulRule, fitness, fits as fitsRule, Fit, applyRule, lookRule, usedRule};
 
 const PAIRS: u64 = 512;
@@ -29,6 +30,30 @@ pub enum Answer {
     Held,
     Declined,
     None,
+}
+
+// An answer's number.
+pub fn number(a: Answer) -> u8
+    ensures { λ r. ⌜ r ≡ numberRule a ⌝ }
+{
+    match a {
+        Answer::Done => 0,
+        Answer::Length => 1,
+        Answer::Broken => 2,
+        Answer::Gone => 3,
+        Answer::NoSlot => 4,
+        Answer::Operation => 5,
+        Answer::NotNow => 6,
+        Answer::Locked => 7,
+        Answer::GuardsOpen => 8,
+        Answer::NoGuard => 9,
+        Answer::FourGuards => 10,
+        Answer::LogFull => 11,
+        Answer::SlotsFull => 12,
+        Answer::Held => 13,
+        Answer::Declined => 14,
+        Answer::None => 15,
+    }
 }
 
 // Whether a copy has its length and no more entries than pairs.

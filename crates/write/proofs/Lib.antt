@@ -15,4 +15,5 @@ pub mod Made
 pub mod Turns
 pub mod Callings
 pub mod Determined
+pub mod Computes
 pub mod Wrong

@@ -14,7 +14,6 @@ use Rattle.table.proofs.Split.{split}
 use Rattle.read.specs.declared.Due.{Due}
 use Rattle.read.specs.declared.Due.the-variants.{Nothing, Load, Restore}
 use Rattle.read.specs.declared.Slot.{Slot}
-use Rattle.read.specs.declared.Phase.the-variants.{Gone}
 use Rattle.read.specs.declared.Control.{Control}
 use Rattle.read.specs.declared.State.{State}
 use Rattle.read.specs.declared.Handle.{Handle}

@@ -1,14 +1,12 @@
 -- Wrong programs, as definitions on the rules' values, and for each a proof that the promise is false of it: one call where the two differ.
 use Prim.Native.Nat.{ℕ, zero, suc, _+_, _-_, _%_, _^_}
-use mathlib.Core.Path.{_≡_, refl, ap}
+use mathlib.Core.Path.{_≡_, refl}
 use mathlib.Core.Bool.{Bool, true, false, not, _&&_, _||_}
 use mathlib.Core.List.{List, [], _∷_, _++_}
-use borrow.Author.Tests.{eqb-false}
 use lib.Dec.{eqb, ltb, leb}
 use lib.ListN.{length, getD, set, replicate}
 use Rattle.table.specs.Answers.{number}
-use Rattle.table.specs.Seek.{seek}
-use Rattle.table.specs.Copy.{words, zeros, lawful, added, dropped, applied, applyRule, closeRule}
+use Rattle.table.specs.Copy.{words, zeros, lawful}
 use Rattle.table.specs.declared.Answer.the-variants as answer
 use Rattle.read.specs.declared.Slot.{Slot}
 use Rattle.read.specs.declared.Due.the-variants.{Nothing}
@@ -20,8 +18,8 @@ use Rattle.read.specs.declared.Control.{Control}
 use Rattle.read.specs.declared.Verdict.the-variants.{Admitted, Refused}
 use Rattle.read.specs.declared.State.{State}
 use Rattle.read.specs.declared.Reply.{Reply}
-use Rattle.read.specs.Machine.{slotCount, logRoom, logWords, noGuards, noSlot, newSlot, locks, nulls, glanced, judged, fresh}
-use Rattle.read.specs.Admission.{row, entry}
+use Rattle.read.specs.Machine.{slotCount, logRoom, logWords, noGuards, noSlot, newSlot, locks, nulls, judged, fresh}
+use Rattle.read.specs.Admission.{row}
 use Rattle.read.specs.Handles.{smallest, freed, copyOf, bit}
 use Rattle.read.specs.Calls.{Lent, lent, slotAt, refusal}
 use Rattle.write.specs.declared.Moved.{Moved}
@@ -31,9 +29,11 @@ use Rattle.write.specs.declared.Call.{Call}
 use Rattle.write.specs.declared.Call.the-variants as call
 use Rattle.write.specs.Steps.{at, withJob, withLog, swappedOver, draining, polling, beginning, lastPolling, holds, moved, refused, stopped, ofLeft, ofRight, operated, logApplied, over, unlogged, stepAt, place}
 use Rattle.write.specs.Begins.{writerSigns, madeAtOnce, appendFirst, appended, appendOn, columnOf, begun, value, opened, openOn}
-use Rattle.write.specs.Runs.{snapAt, lift, stepOn, left, goOn, steps, runOn}
-use Rattle.write.specs.Machine.{going, callOn, callRule}
+use Rattle.write.specs.Runs.{snapAt, lift, stepOn, left, goOn, runOn}
+use Rattle.write.specs.Machine.{going, callRule}
 use Rattle.write.specs.Glanced.{atAGlance, stepGlanced, runGlanced}
+use Rattle.table.proofs.Computes.{apart}
+use Rattle.write.proofs.Computes.{rules}
 
 -- ---- the promises, of any program
 
@@ -72,15 +72,6 @@ abbrev RunOnPromise : Whole → Type 0
 RunOnPromise f = (st : State) (l r g : List ℕ) → f st l r g ≡ runGlanced st l r g
 
 -- ---- what the witnesses are made of
-
--- a number read off two results that differs, though they are said to be equal
-apart : {A : Type 0} {x y : A} (read : A → ℕ) → eqb (read x) (read y) ≡ false → x ≡ y → ⊥
-apart {x = x} {y = y} read d e = eqb-false (read x) (read y) d (ap read e)
-
--- all that a witness computes with
-rules : Type 0
-unfolding seek added dropped applied lawful applyRule closeRule slotCount glanced judged entry smallest stepAt appendOn opened openOn stepOn steps runOn callOn callRule stepGlanced runGlanced
-rules = Unit {0}
 
 -- a control part that fits its phase, the pointer on the left copy
 abbrev standing : Phase → Job → Bool → Bool → ℕ → ℕ → Control

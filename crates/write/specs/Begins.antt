@@ -5,12 +5,10 @@ use mathlib.Core.List.{List}
 use lib.ListN.{set}
 use lib.Dec.{eqb, ltb, leb}
 use Rattle.table.specs.Copy.{lawful}
-use Rattle.table.specs.declared.Answer.{Answer}
 use Rattle.table.specs.declared.Answer.the-variants as answer
 use Rattle.read.specs.declared.Slot.{Slot}
 use Rattle.read.specs.declared.Phase.{Phase}
 use Rattle.read.specs.declared.Phase.the-variants.{Begin, Null}
-use Rattle.read.specs.declared.Job.{Job}
 use Rattle.read.specs.declared.Job.the-variants.{Publish, Try, TakeFirst}
 use Rattle.read.specs.declared.Control.{Control}
 use Rattle.read.specs.declared.Verdict.the-variants.{Admitted, Refused}

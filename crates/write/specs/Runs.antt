@@ -3,24 +3,19 @@ use Prim.Native.Nat.{ℕ, zero, suc, _+_, _-_}
 use mathlib.Core.Bool.{Bool, true, false}
 use mathlib.Core.List.{List}
 use lib.ListN.{getD, set}
-use lib.Dec.{ltb}
 use Rattle.table.specs.Answers.{number}
-use Rattle.table.specs.declared.Answer.{Answer}
 use Rattle.table.specs.declared.Answer.the-variants as answer
 use Rattle.read.specs.declared.Phase.{Phase}
 use Rattle.read.specs.declared.Phase.the-variants.{Idle, Begin, Poll, Copy, Drain, Keep, Swap, Snap, Null, Lock, LastSnap, LastPoll, Finish, Gone}
 use Rattle.read.specs.declared.Job.{Job}
 use Rattle.read.specs.declared.Job.the-variants.{Publish, Try, TakeFirst, TakeSecond}
 use Rattle.read.specs.declared.Control.{Control}
-use Rattle.read.specs.declared.Verdict.the-variants.{Admitted, Refused}
 use Rattle.read.specs.declared.State.{State}
 use Rattle.read.specs.declared.Reply.{Reply}
 use Rattle.read.specs.Machine.{slotCount}
-use Rattle.read.specs.Handles.{smallest}
-use Rattle.read.specs.Calls.{Lent, lent, slotAt, refusal}
+use Rattle.read.specs.Calls.{Lent, lent, slotAt}
 use Rattle.write.specs.declared.Moved.{Moved}
 use Rattle.write.specs.Steps.{stepAt, place}
-use Rattle.write.specs.Begins.{stepSigns}
 
 -- ---- a move at one slot, put back into the state that it was made from
 

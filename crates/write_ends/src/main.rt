@@ -25,24 +25,7 @@ fn say(x: u64) {
 }
 
 fn number(a: Answer) -> u64 {
-    match a {
-        Answer::Done => 0,
-        Answer::Length => 1,
-        Answer::Broken => 2,
-        Answer::Gone => 3,
-        Answer::NoSlot => 4,
-        Answer::Operation => 5,
-        Answer::NotNow => 6,
-        Answer::Locked => 7,
-        Answer::GuardsOpen => 8,
-        Answer::NoGuard => 9,
-        Answer::FourGuards => 10,
-        Answer::LogFull => 11,
-        Answer::SlotsFull => 12,
-        Answer::Held => 13,
-        Answer::Declined => 14,
-        Answer::None => 15,
-    }
+    table::number(a) as u64
 }
 
 fn say_at(name: &[u8], k: usize) {

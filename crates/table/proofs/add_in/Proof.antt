@@ -2,7 +2,7 @@
 use borrow.Author.Needs.{needs}
 use Prim.Native.Nat.{ℕ}
 use mathlib.Core.Path.{sym, ap, _∙_}
-use Rattle.table.specs.Copy.{grown, inserted}
+use Rattle.table.specs.Copy.{inserted}
 use Rattle.table.proofs.Cases.{added-present, added-absent, placed-full, placed-room}
 use Rattle.table.proofs.Parts.{inserted-part}
 use Rattle.table.proofs.add_in.Statement.{statement}

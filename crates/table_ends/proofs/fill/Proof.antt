@@ -1,4 +1,4 @@
--- No answer is above 15, and the slice keeps its length.
+-- No answer is above 255, and the slice keeps its length.
 use Prim.Native.Nat.{_≤_, _-_, _*_}
 use mathlib.Core.Path.{_≡_}
 use borrow.Author.Needs.{needs}
@@ -7,7 +7,7 @@ use Rattle.table_ends.proofs.fill.Statement.{statement}
 use Rattle.table_ends.proofs.fill.Tie as tie
 
 abbrev Inv-loop : tie.InvT-loop
-Inv-loop w₀ sum₀ i₀ w sum i = (i ≤ 512) × (sum ≤ 15 * i) × (length w ≡ length w₀)
+Inv-loop w₀ sum₀ i₀ w sum i = (i ≤ 512) × (sum ≤ 255 * i) × (length w ≡ length w₀)
 
 abbrev μ-loop : tie.MeasureT-loop
 μ-loop w₀ sum₀ i₀ w sum i = 512 - i

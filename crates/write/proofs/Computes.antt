@@ -1,0 +1,11 @@
+-- What a computed witness opens.
+use Rattle.read.proofs.Computes.{rules as readRules}
+use Rattle.write.specs.Steps.{stepAt}
+use Rattle.write.specs.Begins.{appendOn, opened, openOn}
+use Rattle.write.specs.Runs.{stepOn, steps, runOn}
+use Rattle.write.specs.Machine.{callOn, callRule}
+use Rattle.write.specs.Glanced.{stepGlanced, runGlanced}
+
+unfoldable pub rules : Type 0
+unfolding readRules stepAt appendOn opened openOn stepOn steps runOn callOn callRule stepGlanced runGlanced
+rules = Unit {0}
