@@ -1,6 +1,6 @@
 // The player: a schedule of calls in, the transcript of their answers out. The machine's memory is its own.
 pub mod schedule;
-pub mod transcript;
+mod transcript;
 mod turns;
 
 use write::steps;
