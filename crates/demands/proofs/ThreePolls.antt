@@ -29,8 +29,8 @@ use Rattle.write.specs.Runs.{snapAt, lift, stepOn, runOn}
 use Rattle.write.specs.Machine.{callOn, callRule, going}
 use Rattle.write.proofs.Verdicts.{judging, refused-mild, step-underway}
 use Rattle.write.proofs.Control.{both}
-use Rattle.write.specs.Scans.{polls, outcome}
-use Rattle.write.proofs.Left.{step-answer, made-unless-polls, made-unless-held, poll-stopped, lastPoll-stopped}
+use Rattle.write.specs.Scans.{polls}
+use Rattle.write.proofs.Left.{outcome, step-answer, made-unless-polls, made-unless-held, poll-stopped, lastPoll-stopped}
 use Rattle.demands.specs.History.{World, worldOf, reply, next, answerOf}
 use Rattle.demands.specs.Demand3.{isTry, phaseOf, jobOf, meetsReader}
 use Rattle.demands.proofs.ThreePhases.{clash, poll-cases, poll-underway, underway-stays}

@@ -4,6 +4,7 @@ use mathlib.Core.Path.{_≡_, sym, ap, _∙_}
 use denote.Ref.{now}
 use Rattle.read.specs.declared.Reply.{Reply}
 use Rattle.read.specs.Calls.{Lent}
+use Rattle.read.proofs.admission.row.Reads as admission-row
 use Rattle.read.proofs.admission.entry.Reads as admission-entry
 use Rattle.read.proofs.admission.column.Reads as admission-column
 use Rattle.read.proofs.guards.first_guard.Reads as guards-first-guard
@@ -40,6 +41,9 @@ use Rattle.read.proofs.look_up.Reads as look-up
 use Rattle.read.proofs.was_dropped.Reads as was-dropped
 use Rattle.read.proofs.view.Reads as view
 use Rattle.read.proofs.pair.Reads as pair
+
+admission-row-determined : (κs : _) (a : _) (r q : _) (s t : _) → admission-row.Post κs a r s → admission-row.Post κs a q t → r ≡ q
+admission-row-determined κs a r q s t h l = h ∙ sym l
 
 admission-entry-determined : (κs : _) (a : _) (r q : _) (s t : _) → admission-entry.Post κs a r s → admission-entry.Post κs a q t → r ≡ q
 admission-entry-determined κs a r q s t h l = h ∙ sym l

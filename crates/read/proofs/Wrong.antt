@@ -26,7 +26,7 @@ use Rattle.read.specs.declared.Signs.{Signs}
 use Rattle.read.specs.declared.Made.{Made}
 use Rattle.read.specs.declared.Reply.{Reply}
 use Rattle.read.specs.Machine.{guardCount, logWords, shut, noGuards, isOpen, standsRight, putGuard, same, firstGuard, anyOpen, allOpen, isDue, isLoad, noSlot, newSlot, isGone, underway, locks, nulls, sized, wholeControl, glanced, judged, fresh}
-use Rattle.read.specs.Admission.{column, entry}
+use Rattle.read.specs.Admission.{row, column, entry}
 use Rattle.read.specs.Handles.{smallest, handleSigns, bumped, withDue, freed, loaded, entered, wentOn, released, copyOf, guardedCopy, handleOn}
 use Rattle.read.specs.Calls.{slotAt, withSlot, refusal, Lent, lent, firstFree, handleRule, createRule, viewRule, pairRule, startRule}
 use Rattle.table.proofs.Computes.{apart}
@@ -135,6 +135,20 @@ unlawful =
     record { right = false; null = false; lock = false; first = false; second = true; phase = Idle; job = Publish; length = 1; swapped = 0 }
 
 -- ---- admission
+
+-- the rows are counted from 1
+abbrev fromOne : Phase → ℕ
+fromOne p = row p + 1
+
+fromOne-wrong : Keeps1 row fromOne → ⊥
+fromOne-wrong h = apart itself refl (h Idle)
+
+-- every phase is in the row of idle
+abbrev oneRow : Phase → ℕ
+oneRow p = row Idle
+
+oneRow-wrong : Keeps1 row oneRow → ⊥
+oneRow-wrong h = apart itself refl (h Gone)
 
 -- create goes through under the lock
 abbrev createPasses : Phase → ℕ → ℕ

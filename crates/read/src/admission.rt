@@ -23,7 +23,8 @@ const ADMITS: [[u8; 20]; 14] = [
     [0, 0, 0, 0, 0, 0, 0, 6, 6, 6, 6, 6, 6, 6, 0, 0, 0, 0, 0, 0],
 ];
 
-fn row(p: Phase) -> usize
+// A phase by its row.
+pub fn row(p: Phase) -> usize
     ensures { λ r. ⌜ r ≡ rowRule p ⌝ }
 {
     match p {

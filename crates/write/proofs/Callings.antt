@@ -4,8 +4,6 @@ use mathlib.Core.Path.{_≡_, refl, sym, ap, _∙_}
 use mathlib.Core.Bool.{Bool, true, false, _&&_, true≢false}
 use mathlib.Core.List.{List}
 use native.Mathlib.Omega.{arith}
-use lib.Dec.{leb}
-use Rattle.table.specs.Copy.{pairs, entries}
 use Rattle.table.specs.declared.Answer.{Answer}
 use Rattle.table.specs.declared.Answer.the-variants as answer
 use Rattle.read.specs.declared.Slot.{Slot}
@@ -15,17 +13,16 @@ use Rattle.read.specs.declared.Verdict.the-variants.{Admitted, Refused}
 use Rattle.read.specs.declared.Signs.{Signs}
 use Rattle.read.specs.declared.State.{State}
 use Rattle.read.specs.declared.Reply.{Reply}
-use Rattle.read.specs.Machine.{sized, wholeControl, glanced, judged}
+use Rattle.read.specs.Machine.{wholeControl, judged}
 use Rattle.read.specs.Handles.{smallest}
 use Rattle.read.specs.Calls.{Lent, lent, slotAt, refusal}
 use Rattle.write.specs.declared.Moved.{Moved}
 use Rattle.write.specs.declared.Opening.{Opening}
 use Rattle.write.specs.declared.Call.{Call}
-use Rattle.write.specs.declared.Call.the-variants.{Append, Open, Step, Run}
+use Rattle.write.specs.declared.Call.the-variants.{Append, Open}
 use Rattle.write.specs.Begins.{stepSigns, appendOn, openOn}
-use Rattle.write.specs.Runs.{snapAt, putBack, lift, stepOn, runOn}
-use Rattle.write.specs.Machine.{going, callOn, callRule}
-use Rattle.write.specs.Glanced.{atAGlance}
+use Rattle.write.specs.Runs.{snapAt, putBack, lift}
+use Rattle.write.specs.Machine.{going, goes, goingColumn, goingRule, callOn, callRule}
 use Rattle.write.proofs.Control.{whole-control}
 use Rattle.write.proofs.Judged.{judged-good}
 
@@ -50,11 +47,6 @@ last-of true b e = e
 last-of false b e = absurd (true≢false (sym e))
 
 module _ (c : Control) (l r g : List ℕ) where
-  pub glanced-whole-control : glanced c l r g ≡ Admitted → wholeControl c ≡ true
-  unfolding glanced
-  glanced-whole-control e =
-      last-of (leb (entries r) pairs) _ (last-of (leb (entries l) pairs) _ (sized-met (sized l r g) _ e))
-
   pub judged-whole-control : judged c l r g ≡ Admitted → wholeControl c ≡ true
   judged-whole-control e = whole-control c (judged-good c l r g e .whole)
 
@@ -92,13 +84,10 @@ module _ (st : State) (l r g : List ℕ) where
       ap (λ (q : Reply). lent q l r g) e
       ∙ ap (λ (m : Moved). lent (putBack 0 st m) l r g) (h ∙ ap (λ (s : Slot). openOn o (st .control) s (snapAt st 0)) x)
 
-  pub step-called : {o : Lent Reply} → o ≡ going 12 stepOn st l r g → o ≡ callOn Step st l r g
+  pub goes-called : (run : Bool) {o : Lent Reply} → o ≡ going (goingColumn run) (goingRule run) st l r g → o ≡ callOn (goes run) st l r g
   unfolding callOn
-  step-called h = h
-
-  pub run-called : {o : Lent Reply} → o ≡ going 13 runOn st l r g → o ≡ callOn Run st l r g
-  unfolding callOn
-  run-called h = h
+  goes-called true h = h
+  goes-called false h = h
 
   module _ (rule : State → List ℕ → List ℕ → List ℕ → Lent Reply) where
     -- step and run, by whether one is admitted
@@ -111,14 +100,3 @@ module _ (st : State) (l r g : List ℕ) where
 
       pub going-admitted : {o : Lent Reply} → v ≡ Admitted → o ≡ rule st l r g → o ≡ going column rule st l r g
       going-admitted e y = y ∙ ap Going (sym e ∙ h ∙ ap smallest x)
-
-    -- the same at a glance
-    module _ {v : Verdict} (h : v ≡ glanced (st .control) l r g) where
-      abbrev Glancing : Verdict → Lent Reply
-      Glancing v = elim v [ Admitted ↦ rule st l r g | Refused a ↦ lent (refusal a st) l r g ]
-
-      pub glance-refused : {a : Answer} {q : Reply} → v ≡ Refused a → q ≡ refusal a st → lent q l r g ≡ atAGlance rule st l r g
-      glance-refused e y = ap (λ (q : Reply). lent q l r g) y ∙ ap Glancing (sym e ∙ h)
-
-      pub glance-admitted : {o : Lent Reply} → v ≡ Admitted → o ≡ rule st l r g → o ≡ atAGlance rule st l r g
-      glance-admitted e y = y ∙ ap Glancing (sym e ∙ h)

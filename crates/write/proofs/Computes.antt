@@ -4,8 +4,7 @@ use Rattle.write.specs.Steps.{stepAt}
 use Rattle.write.specs.Begins.{appendOn, opened, openOn}
 use Rattle.write.specs.Runs.{stepOn, steps, runOn}
 use Rattle.write.specs.Machine.{callOn, callRule}
-use Rattle.write.specs.Glanced.{stepGlanced, runGlanced}
 
 unfoldable pub rules : Type 0
-unfolding readRules stepAt appendOn opened openOn stepOn steps runOn callOn callRule stepGlanced runGlanced
+unfolding readRules stepAt appendOn opened openOn stepOn steps runOn callOn callRule
 rules = Unit {0}

@@ -8,8 +8,6 @@ use Rattle.read.specs.Calls.{Lent, lent}
 use Rattle.write.proofs.append.Reads as append
 use Rattle.write.proofs.step.Reads as step
 use Rattle.write.proofs.run.Reads as run
-use Rattle.write.proofs.step_on.Reads as step-on
-use Rattle.write.proofs.run_on.Reads as run-on
 use Rattle.write.proofs.publish.Reads as publish
 use Rattle.write.proofs.try_publish.Reads as try-publish
 use Rattle.write.proofs.flush.Reads as flush
@@ -48,16 +46,6 @@ run-determined :
     (κs : _) (a : _) (r q : _) (s t : _) → run.Post κs a r s → run.Post κs a q t →
     (r ≡ q) × (now (s .1 .0) ≡ now (t .1 .0)) × (now (s .1 .1 .0) ≡ now (t .1 .1 .0)) × (now (s .1 .1 .1 .0) ≡ now (t .1 .1 .1 .0))
 run-determined κs a r q s t h l = same h l
-
-step-on-determined :
-    (κs : _) (a : _) (r q : _) (s t : _) → step-on.Post κs a r s → step-on.Post κs a q t →
-    (r ≡ q) × (now (s .1 .0) ≡ now (t .1 .0)) × (now (s .1 .1 .0) ≡ now (t .1 .1 .0)) × (now (s .1 .1 .1 .0) ≡ now (t .1 .1 .1 .0))
-step-on-determined κs a r q s t h l = same h l
-
-run-on-determined :
-    (κs : _) (a : _) (r q : _) (s t : _) → run-on.Post κs a r s → run-on.Post κs a q t →
-    (r ≡ q) × (now (s .1 .0) ≡ now (t .1 .0)) × (now (s .1 .1 .0) ≡ now (t .1 .1 .0)) × (now (s .1 .1 .1 .0) ≡ now (t .1 .1 .1 .0))
-run-on-determined κs a r q s t h l = same h l
 
 publish-determined : (κs : _) (a : _) (r q : _) (s t : _) → publish.Post κs a r s → publish.Post κs a q t → r ≡ q
 publish-determined κs a r q s t h l = made-same h l

@@ -15,12 +15,12 @@ use Rattle.read.specs.declared.Phase.the-variants.{Idle, Begin, Poll, Copy, Dra
 use Rattle.read.specs.declared.Job.{Job}
 use Rattle.read.specs.declared.Job.the-variants.{Publish, Try, TakeFirst, TakeSecond}
 use Rattle.read.specs.declared.Control.{Control}
-use Rattle.read.specs.Machine.{slotCount, logRoom, underway}
+use Rattle.read.specs.Machine.{slotCount, logRoom, underway, isGone}
 use Rattle.read.specs.Handles.{bit}
 use Rattle.read.specs.Calls.{Lent, lent}
 use Rattle.write.specs.declared.Moved.{Moved}
 use Rattle.write.specs.Steps.{at, withJob, withLog, copied, swappedOver, nextJob, keeping, draining, polled, polling, beginning, published, lastPolling, lastSnapping, snapping, holds, moved, refused, stopped, pollMove, lastPollMove, stepAt}
-use Rattle.write.specs.Scans.{stopAnswer, outcome, polls}
+use Rattle.write.specs.Scans.{polls, stopAnswer, haltAnswer}
 use Rattle.write.specs.Runs.{lastLeft, afterLeft, snapLeft, swapLeft, drainLeft, polledLeft, beginLeft, leftAt, left}
 use Rattle.write.proofs.Cases.{below, keeping-cases, draining-cases, polled-cases, polling-cases, beginning-cases, lastPolling-cases, lastSnapping-cases, snapping-cases}
 use Rattle.write.proofs.Control.{Whole, Fits, fits}
@@ -96,6 +96,16 @@ left-snapping c k =
 
 -- ---- what a step answers, exactly
 
+-- stops: it is a poll that is held or declined
+abbrev answered : Bool → Bool → Phase → Job → Answer
+answered stops goes p j =
+    elim stops
+    [ true ↦ haltAnswer p j | false ↦ elim goes [ true ↦ answer.Done | false ↦ elim (isGone p) [ true ↦ answer.Gone | false ↦ answer.NotNow ] ] ]
+
+-- by its phase and job; held: of the slot and the snapshot that it looks at
+abbrev pub outcome : Phase → Job → Bool → Answer
+outcome p j held = answered (polls p && held) (underway p) p j
+
 module _ (c : Control) (s : Slot) (e : ℕ) where
   stopped-answer : (j : Job) → stopped j c s e .answer ≡ stopAnswer j
   stopped-answer Publish = refl
@@ -131,36 +141,14 @@ module _ (c : Control) (s : Slot) (e : ℕ) where
 
 -- a step that is no poll is made, and so is a poll that is not held
 pub made-unless-polls : (p : Phase) (j : Job) (b : Bool) → underway p ≡ true → polls p ≡ false → outcome p j b ≡ answer.Done
-made-unless-polls Idle j b u q = absurd (true≢false (sym u))
-made-unless-polls Begin j b u q = refl
-made-unless-polls (Poll k) j b u q = absurd (true≢false q)
-made-unless-polls Copy j b u q = refl
-made-unless-polls Drain j b u q = refl
-made-unless-polls (Keep k) j b u q = refl
-made-unless-polls Swap j b u q = refl
-made-unless-polls (Snap k) j b u q = refl
-made-unless-polls Null j b u q = refl
-made-unless-polls Lock j b u q = refl
-made-unless-polls (LastSnap k) j b u q = refl
-made-unless-polls (LastPoll k) j b u q = absurd (true≢false q)
-made-unless-polls Finish j b u q = refl
-made-unless-polls Gone j b u q = absurd (true≢false (sym u))
+made-unless-polls p j b u q = λ i. answered (q i && b) (u i) p j
+
+unheld : (b : Bool) → (b && false) ≡ false
+unheld true = refl
+unheld false = refl
 
 pub made-unless-held : (p : Phase) (j : Job) → underway p ≡ true → outcome p j false ≡ answer.Done
-made-unless-held Idle j u = absurd (true≢false (sym u))
-made-unless-held Begin j u = refl
-made-unless-held (Poll k) j u = refl
-made-unless-held Copy j u = refl
-made-unless-held Drain j u = refl
-made-unless-held (Keep k) j u = refl
-made-unless-held Swap j u = refl
-made-unless-held (Snap k) j u = refl
-made-unless-held Null j u = refl
-made-unless-held Lock j u = refl
-made-unless-held (LastSnap k) j u = refl
-made-unless-held (LastPoll k) j u = refl
-made-unless-held Finish j u = refl
-made-unless-held Gone j u = absurd (true≢false (sym u))
+made-unless-held p j u = λ i. answered (unheld (polls p) i) (u i) p j
 
 -- the polls that wait where they are held, and those that decline
 abbrev pub waits : Phase → Job → Bool

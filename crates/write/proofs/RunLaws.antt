@@ -23,7 +23,7 @@ use Rattle.read.specs.Machine.{slotCount, noSlot, underway}
 use Rattle.read.specs.Calls.{Lent, lent}
 use Rattle.write.specs.declared.Moved.{Moved}
 use Rattle.write.specs.Steps.{at, polled, polling, lastPolling, holds, moved, refused, stopped, stepAt, place}
-use Rattle.write.specs.Scans.{polls, scanningAt, stopAnswer, stopControl, outcome, halted}
+use Rattle.write.specs.Scans.{polls, scanningAt, stopAnswer, stopControl, haltAnswer, halted}
 use Rattle.write.specs.Runs.{lift, stepOn, left, goOn, steps, runOn}
 use Rattle.write.proofs.Control.{Placed, Whole, whole-step}
 use Rattle.write.proofs.Left.{step-answer, made-unless-polls, poll-passed, poll-stopped, lastPoll-passed, lastPoll-stopped, step-lowers, idle-left, underway-left, left-small}
@@ -328,7 +328,7 @@ module _ (o : Lent Reply) (k n : ℕ) (c : Control) (ss : List Slot) (es l r g :
   abbrev Stops : Phase → Type 0
   Stops p =
       On (scanningAt p c i) → holds s e ≡ true →
-      lent (record { answer = outcome p (c .job) true; value = n; state = stateOf (halted p (at (scanningAt p c i) c)) ss es }) l r g ≡ o
+      lent (record { answer = haltAnswer p (c .job); value = n; state = stateOf (halted p (at (scanningAt p c i) c)) ss es }) l r g ≡ o
 
   stopped-at : (p : Phase) → polls p ≡ true → Stops p
   stopped-at =
@@ -382,7 +382,7 @@ module _ {o : Lent Reply} {k n : ℕ} (c : Control) {ss : List Slot} {es l r g :
   -- a poll that is held or declined
   pub scan-stopped :
       {a : Answer} {d : Control} → Scans o k n c i ss es l r g → polls (c .phase) ≡ true → i < slotCount →
-      holds (getD ss i noSlot) (getD es i 0) ≡ true → a ≡ outcome (c .phase) (c .job) true → d ≡ halted (c .phase) (scanning c i) →
+      holds (getD ss i noSlot) (getD es i 0) ≡ true → a ≡ haltAnswer (c .phase) (c .job) → d ≡ halted (c .phase) (scanning c i) →
       lent (record { answer = a; value = n; state = stateOf d ss es }) l r g ≡ o
   scan-stopped h q b f x y =
       (λ j. lent (record { answer = x j; value = n; state = stateOf (y j) ss es }) l r g)

@@ -18,7 +18,7 @@ use Rattle.read.specs.Calls.{Lent, lent, slotAt}
 use Rattle.read.proofs.Cases.{getD-within}
 use Rattle.write.specs.declared.Moved.{Moved}
 use Rattle.write.specs.Steps.{holds, stepAt, place}
-use Rattle.write.specs.Scans.{polls, outcome, halted}
+use Rattle.write.specs.Scans.{polls, haltAnswer, halted}
 use Rattle.write.specs.Runs.{snapAt, putBack, lift, stepOn}
 use Rattle.write.proofs.Control.{Placed, Whole}
 use Rattle.write.proofs.RunLaws.{stateOf, Goes, Scans, scanning, goes-made, scan-start, scan-passed, scan-stopped}
@@ -141,7 +141,7 @@ module _ {c₀ : Control} {n₀ i₀ : ℕ} {a₀ : Answer} {c : Control} {n i :
 
     pub scan-ends :
         {o : Lent Reply} {k : ℕ} {w : Answer} {p d : Control} → Goes o k n₀ c₀ ss es l r g → holds (getD ss i noSlot) (getD es i 0) ≡ true →
-        w ≡ outcome (c .phase) (c .job) true → p ≡ scanning c i → d ≡ halted (c .phase) p →
+        w ≡ haltAnswer (c .phase) (c .job) → p ≡ scanning c i → d ≡ halted (c .phase) p →
         lent (record { answer = w; value = n; state = stateOf d ss es }) l r g ≡ o
     unfolding slotCount
     scan-ends {o} {k} h f x y z =

@@ -29,9 +29,8 @@ use Rattle.write.specs.declared.Call.{Call}
 use Rattle.write.specs.declared.Call.the-variants as call
 use Rattle.write.specs.Steps.{at, withJob, withLog, swappedOver, draining, polling, beginning, lastPolling, holds, moved, refused, stopped, ofLeft, ofRight, operated, logApplied, over, unlogged, stepAt, place}
 use Rattle.write.specs.Begins.{writerSigns, madeAtOnce, appendFirst, appended, appendOn, columnOf, begun, value, opened, openOn}
-use Rattle.write.specs.Runs.{snapAt, lift, stepOn, left, goOn, runOn}
+use Rattle.write.specs.Runs.{snapAt, lift, stepOn, left, goOn}
 use Rattle.write.specs.Machine.{going, callRule}
-use Rattle.write.specs.Glanced.{atAGlance, stepGlanced, runGlanced}
 use Rattle.table.proofs.Computes.{apart}
 use Rattle.write.proofs.Computes.{rules}
 
@@ -64,12 +63,6 @@ OpenOnPromise f = (o : Opening) (c : Control) (s : Slot) (e : ℕ) → f o c s e
 -- append, publish, try, flush, take, step and run
 abbrev CallPromise : Call → Whole → Type 0
 CallPromise k f = (st : State) (l r g : List ℕ) → f st l r g ≡ callRule k st l r g
-
-abbrev StepOnPromise : Whole → Type 0
-StepOnPromise f = (st : State) (l r g : List ℕ) → f st l r g ≡ stepGlanced st l r g
-
-abbrev RunOnPromise : Whole → Type 0
-RunOnPromise f = (st : State) (l r g : List ℕ) → f st l r g ≡ runGlanced st l r g
 
 -- ---- what the witnesses are made of
 
@@ -543,26 +536,3 @@ stepsBy f (suc k) n st l r g = goOn (stepsBy f k (n + 1)) n (stepBy f st l r g)
 run-oldSnapshots-wrong : CallPromise call.Run (judging (going 13 (λ st l r g. stepsBy oldSnapshots (left (st .control)) 0 st l r g))) → ⊥
 unfolding rules
 run-oldSnapshots-wrong h = apart answered refl (h (with1 (standing Lock TakeFirst false false 0 0) inside 0) blank blank blankLog)
-
--- ---- step and run at a glance
-
--- judged by the walk over the log too
-step-walks-wrong : StepOnPromise (callRule call.Step) → ⊥
-unfolding rules
-step-walks-wrong h =
-    apart answered refl (h (with1 (standing Swap Publish false false 1 0) noSlot 0) blank blank blankLog)
-
--- judged by nothing
-step-blind-wrong : StepOnPromise (going 12 stepOn) → ⊥
-unfolding rules
-step-blind-wrong h = apart answered refl (h (with1 (standing Swap Publish false false 0 0) noSlot 0) [] blank blankLog)
-
-run-walks-wrong : RunOnPromise (callRule call.Run) → ⊥
-unfolding rules
-run-walks-wrong h =
-    apart answered refl (h (with1 (standing (Snap 15) Publish false false 1 1) noSlot 0) blank blank blankLog)
-
--- with none under way
-run-idle-wrong : RunOnPromise (atAGlance runOn) → ⊥
-unfolding rules
-run-idle-wrong h = apart answered refl (h fresh blank blank blankLog)

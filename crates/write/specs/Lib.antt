@@ -3,4 +3,3 @@ pub mod Begins
 pub mod Scans
 pub mod Runs
 pub mod Machine
-pub mod Glanced

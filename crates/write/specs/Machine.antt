@@ -1,5 +1,6 @@
 -- The whole machine: every call, judged on the whole state and all three lent slices.
 use Prim.Native.Nat.{ℕ}
+use mathlib.Core.Bool.{Bool, true, false}
 use mathlib.Core.List.{List}
 use Rattle.read.specs.declared.Verdict.the-variants.{Admitted, Refused}
 use Rattle.read.specs.declared.State.{State}
@@ -16,6 +17,19 @@ use Rattle.write.specs.Runs.{snapAt, lift, stepOn, runOn}
 abbrev pub going : ℕ → (State → List ℕ → List ℕ → List ℕ → Lent Reply) → State → List ℕ → List ℕ → List ℕ → Lent Reply
 going column rule st l r g =
     elim (smallest (stepSigns column (st .control))) [ Admitted ↦ rule st l r g | Refused a ↦ lent (refusal a st) l r g ]
+
+-- both, by whether it is run
+abbrev pub goes : Bool → Call
+goes true = Run
+goes false = Step
+
+abbrev pub goingColumn : Bool → ℕ
+goingColumn true = 13
+goingColumn false = 12
+
+abbrev pub goingRule : Bool → State → List ℕ → List ℕ → List ℕ → Lent Reply
+goingRule true = runOn
+goingRule false = stepOn
 
 -- a call, below the judgement
 unfoldable pub callOn : Call → State → List ℕ → List ℕ → List ℕ → Lent Reply

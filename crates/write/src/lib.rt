@@ -17,9 +17,8 @@ ghost use mathlib.Core.Path.{_≡_};
 ghost use mathlib.Core.Bool.{true};
 ghost use Rattle.read.specs.Machine.{wholeControl};
 ghost use Rattle.read.specs.Calls.{lent, slotAt, refusal as refusalRule};
-ghost use Rattle.write.specs.Runs.{putBack, stepOn, runOn};
-ghost use Rattle.write.specs.Machine.{going, callRule};
-ghost use Rattle.write.specs.Glanced.{stepGlanced, runGlanced};
+ghost use Rattle.write.specs.Runs.{putBack};
+ghost use Rattle.write.specs.Machine.{going, goes, goingColumn, goingRule, callRule};
 
 // What a step of the writer, or a call that is made at once, makes of the control part and of the one slot that it looks at.
 pub struct Moved {
@@ -162,26 +161,35 @@ pub fn take(st: State, left: &[u64], right: &[u64], log: &[u64]) -> Reply
 
 // ---- step and run
 
-fn step_admitted(st: State, left: &mut [u64], right: &mut [u64], log: &mut [u64]) -> Reply
+fn column(run: bool) -> usize
+    ensures { λ r. ⌜ r ≡ goingColumn run ⌝ }
+{
+    if run {
+        return 13;
+    }
+    12
+}
+
+// Step or run, by the table of admissions.
+fn admitted(run: bool, st: State, left: &mut [u64], right: &mut [u64], log: &mut [u64]) -> Reply
     requires { ⌜ wholeControl (st .control) ≡ true ⌝ }
-    ensures { λ r. ⌜ lent r (now (left .exit)) (now (right .exit)) (now (log .exit)) ≡ going 12 stepOn st (now (left .entry)) (now (right .entry)) (now (log .entry)) ⌝ }
+    ensures { λ r. ⌜ lent r (now (left .exit)) (now (right .exit)) (now (log .exit)) ≡ going (goingColumn run) (goingRule run) st (now (left .entry)) (now (right .entry)) (now (log .entry)) ⌝ }
 {
     let c = st.control;
-    let v = judge::smallest(begins::step_signs(12, c));
+    let v = judge::smallest(begins::step_signs(column(run), c));
     match v {
-        Verdict::Admitted => runs::step_whole(st, left, right, log),
+        Verdict::Admitted => runs::whole(run, st, left, right, log),
         Verdict::Refused(a) => refusal(a, st),
     }
 }
 
-fn run_admitted(st: State, left: &mut [u64], right: &mut [u64], log: &mut [u64]) -> Reply
-    requires { ⌜ wholeControl (st .control) ≡ true ⌝ }
-    ensures { λ r. ⌜ lent r (now (left .exit)) (now (right .exit)) (now (log .exit)) ≡ going 13 runOn st (now (left .entry)) (now (right .entry)) (now (log .entry)) ⌝ }
+fn go(run: bool, st: State, left: &mut [u64], right: &mut [u64], log: &mut [u64]) -> Reply
+    ensures { λ r. ⌜ lent r (now (left .exit)) (now (right .exit)) (now (log .exit)) ≡ callRule (goes run) st (now (left .entry)) (now (right .entry)) (now (log .entry)) ⌝ }
 {
     let c = st.control;
-    let v = judge::smallest(begins::step_signs(13, c));
+    let v = judge::judge(c, &left[..], &right[..], &log[..]);
     match v {
-        Verdict::Admitted => runs::run_whole(st, left, right, log),
+        Verdict::Admitted => admitted(run, st, left, right, log),
         Verdict::Refused(a) => refusal(a, st),
     }
 }
@@ -190,46 +198,12 @@ fn run_admitted(st: State, left: &mut [u64], right: &mut [u64], log: &mut [u64])
 pub fn step(st: State, left: &mut [u64], right: &mut [u64], log: &mut [u64]) -> Reply
     ensures { λ r. ⌜ lent r (now (left .exit)) (now (right .exit)) (now (log .exit)) ≡ callRule Call.Step st (now (left .entry)) (now (right .entry)) (now (log .entry)) ⌝ }
 {
-    let c = st.control;
-    let v = judge::judge(c, &left[..], &right[..], &log[..]);
-    match v {
-        Verdict::Admitted => step_admitted(st, left, right, log),
-        Verdict::Refused(a) => refusal(a, st),
-    }
+    go(false, st, left, right, log)
 }
 
 // Steps until the call ends, or a poll is held or declined. The value counts the steps that were made.
 pub fn run(st: State, left: &mut [u64], right: &mut [u64], log: &mut [u64]) -> Reply
     ensures { λ r. ⌜ lent r (now (left .exit)) (now (right .exit)) (now (log .exit)) ≡ callRule Call.Run st (now (left .entry)) (now (right .entry)) (now (log .entry)) ⌝ }
 {
-    let c = st.control;
-    let v = judge::judge(c, &left[..], &right[..], &log[..]);
-    match v {
-        Verdict::Admitted => run_admitted(st, left, right, log),
-        Verdict::Refused(a) => refusal(a, st),
-    }
-}
-
-// ---- for a caller that keeps its state sound: the same without the walk over the log
-
-pub fn step_on(st: State, left: &mut [u64], right: &mut [u64], log: &mut [u64]) -> Reply
-    ensures { λ r. ⌜ lent r (now (left .exit)) (now (right .exit)) (now (log .exit)) ≡ stepGlanced st (now (left .entry)) (now (right .entry)) (now (log .entry)) ⌝ }
-{
-    let c = st.control;
-    let v = judge::glance(c, &left[..], &right[..], &log[..]);
-    match v {
-        Verdict::Admitted => step_admitted(st, left, right, log),
-        Verdict::Refused(a) => refusal(a, st),
-    }
-}
-
-pub fn run_on(st: State, left: &mut [u64], right: &mut [u64], log: &mut [u64]) -> Reply
-    ensures { λ r. ⌜ lent r (now (left .exit)) (now (right .exit)) (now (log .exit)) ≡ runGlanced st (now (left .entry)) (now (right .entry)) (now (log .entry)) ⌝ }
-{
-    let c = st.control;
-    let v = judge::glance(c, &left[..], &right[..], &log[..]);
-    match v {
-        Verdict::Admitted => run_admitted(st, left, right, log),
-        Verdict::Refused(a) => refusal(a, st),
-    }
+    go(true, st, left, right, log)
 }

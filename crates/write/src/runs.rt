@@ -6,6 +6,7 @@ use read::Job;
 use read::Phase;
 use read::Reply;
 use read::State;
+use read::admission;
 use table::Answer;
 ghost use mathlib.Core.Path.{_≡_};
 ghost use mathlib.Core.Bool.{true};
@@ -13,10 +14,16 @@ ghost use Prim.Native.Nat.{_<_};
 ghost use Rattle.read.specs.Machine.{wholeControl};
 ghost use Rattle.read.specs.Calls.{lent};
 ghost use Rattle.write.specs.Steps.{at, place as placeRule};
-ghost use Rattle.write.specs.Scans.{polls as pollsRule, scanningAt, stopAnswer, outcome as outcomeRule, stopControl, halted as haltedRule};
+ghost use Rattle.write.specs.Scans.{polls as pollsRule, scanningAt, stopAnswer, haltAnswer, stopControl, halted as haltedRule};
 ghost use Rattle.write.specs.Runs.{stepOn, runOn};
+ghost use Rattle.write.specs.Machine.{goingRule};
 
 const SLOTS: usize = 16;
+
+// The rows of the phases that poll, in the table of admissions.
+const POLL: usize = 2;
+
+const LAST_POLL: usize = 11;
 
 // The slot that a step looks at.
 fn place(c: Control) -> usize
@@ -28,7 +35,7 @@ fn place(c: Control) -> usize
 }
 
 // One step: the slot that it looks at is copied out and put back.
-pub(crate) fn step_whole(st: State, left: &mut [u64], right: &mut [u64], log: &mut [u64]) -> Reply
+fn step_whole(st: State, left: &mut [u64], right: &mut [u64], log: &mut [u64]) -> Reply
     requires { ⌜ wholeControl (st .control) ≡ true ⌝ }
     ensures { λ r. ⌜ lent r (now (left .exit)) (now (right .exit)) (now (log .exit)) ≡ stepOn st (now (left .entry)) (now (right .entry)) (now (log .entry)) ⌝ }
 {
@@ -60,22 +67,8 @@ fn polls(c: Control) -> bool
     ensures { λ r. ⌜ r ≡ pollsRule (c .phase) ⌝ }
 {
     let p = c.phase;
-    match p {
-        Phase::Idle => false,
-        Phase::Begin => false,
-        Phase::Poll(_) => true,
-        Phase::Copy => false,
-        Phase::Drain => false,
-        Phase::Keep(_) => false,
-        Phase::Swap => false,
-        Phase::Snap(_) => false,
-        Phase::Null => false,
-        Phase::Lock => false,
-        Phase::LastSnap(_) => false,
-        Phase::LastPoll(_) => true,
-        Phase::Finish => false,
-        Phase::Gone => false,
-    }
+    let r = admission::row(p);
+    r == POLL || r == LAST_POLL
 }
 
 // The phase in which a scan polls slot `i`, or goes on; by the phase in which it began.
@@ -83,22 +76,14 @@ fn scanning_at(c: Control, i: usize) -> Phase
     ensures { λ r. ⌜ r ≡ scanningAt (c .phase) c i ⌝ }
 {
     let p = c.phase;
-    match p {
-        Phase::Idle => Phase::Idle,
-        Phase::Begin => Phase::Begin,
-        Phase::Poll(_) => phases::polling(c, i),
-        Phase::Copy => Phase::Copy,
-        Phase::Drain => Phase::Drain,
-        Phase::Keep(k) => Phase::Keep(k),
-        Phase::Swap => Phase::Swap,
-        Phase::Snap(k) => Phase::Snap(k),
-        Phase::Null => Phase::Null,
-        Phase::Lock => Phase::Lock,
-        Phase::LastSnap(k) => Phase::LastSnap(k),
-        Phase::LastPoll(_) => phases::last_polling(i),
-        Phase::Finish => Phase::Finish,
-        Phase::Gone => Phase::Gone,
+    let r = admission::row(p);
+    if r == POLL {
+        return phases::polling(c, i);
     }
+    if r == LAST_POLL {
+        return phases::last_polling(i);
+    }
+    p
 }
 
 fn scanning(c: Control, i: usize) -> Control
@@ -119,30 +104,16 @@ fn stop_answer(j: Job) -> Answer
     }
 }
 
-// What a step answers where the slot that it looks at is held.
+// The same of a scan that began in the phase of `c`.
 fn outcome(c: Control) -> Answer
-    ensures { λ r. ⌜ r ≡ outcomeRule (c .phase) (c .job) true ⌝ }
+    ensures { λ r. ⌜ r ≡ haltAnswer (c .phase) (c .job) ⌝ }
 {
     let p = c.phase;
-    match p {
-        Phase::Idle => Answer::NotNow,
-        Phase::Begin => Answer::Done,
-        Phase::Poll(_) => {
-            let j = c.job;
-            stop_answer(j)
-        }
-        Phase::Copy => Answer::Done,
-        Phase::Drain => Answer::Done,
-        Phase::Keep(_) => Answer::Done,
-        Phase::Swap => Answer::Done,
-        Phase::Snap(_) => Answer::Done,
-        Phase::Null => Answer::Done,
-        Phase::Lock => Answer::Done,
-        Phase::LastSnap(_) => Answer::Done,
-        Phase::LastPoll(_) => Answer::Held,
-        Phase::Finish => Answer::Done,
-        Phase::Gone => Answer::Gone,
+    let j = c.job;
+    if admission::row(p) == POLL {
+        return stop_answer(j);
     }
+    Answer::Held
 }
 
 // The control part that a poll leaves which is held or declined.
@@ -162,26 +133,14 @@ fn stopped(c: Control) -> Control
 fn halted(p: Phase, c: Control) -> Control
     ensures { λ r. ⌜ r ≡ haltedRule p c ⌝ }
 {
-    match p {
-        Phase::Idle => c,
-        Phase::Begin => c,
-        Phase::Poll(_) => stopped(c),
-        Phase::Copy => c,
-        Phase::Drain => c,
-        Phase::Keep(_) => c,
-        Phase::Swap => c,
-        Phase::Snap(_) => c,
-        Phase::Null => c,
-        Phase::Lock => c,
-        Phase::LastSnap(_) => c,
-        Phase::LastPoll(_) => c,
-        Phase::Finish => c,
-        Phase::Gone => c,
+    if admission::row(p) == POLL {
+        return stopped(c);
     }
+    c
 }
 
 // Steps until the call ends, or a poll is held or declined. The polls are a scan over the slots, which is left from inside.
-pub(crate) fn run_whole(st: State, left: &mut [u64], right: &mut [u64], log: &mut [u64]) -> Reply
+fn run_whole(st: State, left: &mut [u64], right: &mut [u64], log: &mut [u64]) -> Reply
     requires { ⌜ wholeControl (st .control) ≡ true ⌝ }
     ensures { λ r. ⌜ lent r (now (left .exit)) (now (right .exit)) (now (log .exit)) ≡ runOn st (now (left .entry)) (now (right .entry)) (now (log .entry)) ⌝ }
 {
@@ -223,4 +182,21 @@ pub(crate) fn run_whole(st: State, left: &mut [u64], right: &mut [u64], log: &mu
         value: n,
         state: after,
     }
+}
+
+// Run, or step.
+pub(crate) fn whole(
+    run: bool,
+    st: State,
+    left: &mut [u64],
+    right: &mut [u64],
+    log: &mut [u64],
+) -> Reply
+    requires { ⌜ wholeControl (st .control) ≡ true ⌝ }
+    ensures { λ r. ⌜ lent r (now (left .exit)) (now (right .exit)) (now (log .exit)) ≡ goingRule run st (now (left .entry)) (now (right .entry)) (now (log .entry)) ⌝ }
+{
+    if run {
+        return run_whole(st, left, right, log);
+    }
+    step_whole(st, left, right, log)
 }

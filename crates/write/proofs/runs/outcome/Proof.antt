@@ -1,131 +1,25 @@
--- The arm of a poll, by its job.
-use mathlib.Core.Path.{sym, ap, _∙_}
-use mathlib.Core.Bool.{true}
+-- By the row of the phase in which the scan began.
+use mathlib.Core.Path.{_∙_}
 use borrow.Author.Needs.{needs}
-use Rattle.read.specs.declared.Phase.{Phase}
-use Rattle.write.specs.Scans.{outcome}
+use Rattle.write.proofs.Rows.{answer-poll, answer-last}
 use Rattle.write.proofs.runs.outcome.Statement.{statement}
 use Rattle.write.proofs.runs.outcome.Tie as tie
 
-enum-told : tie.Need-enum-told
-enum-told c = search needs
-
-enum-told-2 : tie.Need-enum-told-2
-enum-told-2 c = search needs
-
-enum-told-3 : tie.Need-enum-told-3
-enum-told-3 c = search needs
+row-requires : tie.Need-row-requires
+row-requires c κs = search needs
 
 stop-answer-requires : tie.Need-stop-answer-requires
 stop-answer-requires c κs = search needs
 
-enum-told-4 : tie.Need-enum-told-4
-enum-told-4 c = search needs
-
-enum-told-5 : tie.Need-enum-told-5
-enum-told-5 c = search needs
-
-enum-told-6 : tie.Need-enum-told-6
-enum-told-6 c = search needs
-
-enum-told-7 : tie.Need-enum-told-7
-enum-told-7 c = search needs
-
-enum-told-8 : tie.Need-enum-told-8
-enum-told-8 c = search needs
-
-enum-told-9 : tie.Need-enum-told-9
-enum-told-9 c = search needs
-
-enum-told-10 : tie.Need-enum-told-10
-enum-told-10 c = search needs
-
-enum-told-11 : tie.Need-enum-told-11
-enum-told-11 c = search needs
-
-enum-told-12 : tie.Need-enum-told-12
-enum-told-12 c = search needs
-
-enum-told-13 : tie.Need-enum-told-13
-enum-told-13 c = search needs
-
-enum-told-14 : tie.Need-enum-told-14
-enum-told-14 c = search needs
-
 returns : tie.Need-returns
-returns c = search needs
+returns c =
+    let a = c .before .before .before .args in
+    c .stop-answer .ensures ∙ answer-poll (a .c .phase) (c .before .before .row .ensures) (a .c .job) (c .before .if1 .taken)
 
 returns-2 : tie.Need-returns-2
-returns-2 c = search needs
-
-returns-3 : tie.Need-returns-3
-returns-3 c =
-    let a = c .before .before .before .args in
-    c .stop-answer .ensures ∙ sym (ap (λ (p : Phase). outcome p (a .c .job) true) (c .before .enum-told3 .given .1))
-
-returns-4 : tie.Need-returns-4
-returns-4 c = search needs
-
-returns-5 : tie.Need-returns-5
-returns-5 c = search needs
-
-returns-6 : tie.Need-returns-6
-returns-6 c = search needs
-
-returns-7 : tie.Need-returns-7
-returns-7 c = search needs
-
-returns-8 : tie.Need-returns-8
-returns-8 c = search needs
-
-returns-9 : tie.Need-returns-9
-returns-9 c = search needs
-
-returns-10 : tie.Need-returns-10
-returns-10 c = search needs
-
-returns-11 : tie.Need-returns-11
-returns-11 c = search needs
-
-returns-12 : tie.Need-returns-12
-returns-12 c = search needs
-
-returns-13 : tie.Need-returns-13
-returns-13 c = search needs
-
-returns-14 : tie.Need-returns-14
-returns-14 c = search needs
+returns-2 c =
+    let a = c .before .before .args in
+    answer-last (a .c .phase) (c .before .row .ensures) (a .c .job) (c .if1 .left)
 
 pub outcome-spec : {M : Type 1} → statement M
-outcome-spec =
-    tie.close
-    (tie.spec
-    enum-told
-    enum-told-2
-    enum-told-3
-    stop-answer-requires
-    enum-told-4
-    enum-told-5
-    enum-told-6
-    enum-told-7
-    enum-told-8
-    enum-told-9
-    enum-told-10
-    enum-told-11
-    enum-told-12
-    enum-told-13
-    enum-told-14
-    returns
-    returns-2
-    returns-3
-    returns-4
-    returns-5
-    returns-6
-    returns-7
-    returns-8
-    returns-9
-    returns-10
-    returns-11
-    returns-12
-    returns-13
-    returns-14)
+outcome-spec = tie.close (tie.spec row-requires stop-answer-requires returns returns-2)

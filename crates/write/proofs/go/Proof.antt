@@ -1,10 +1,10 @@
 -- The verdict decides; a state that is admitted has a whole control part.
 use mathlib.Core.Path.{sym, _∙_}
 use borrow.Author.Needs.{needs}
-use Rattle.write.specs.declared.Call.the-variants.{Step}
-use Rattle.write.proofs.Callings.{judged-whole-control, call-refused, call-admitted, step-called}
-use Rattle.write.proofs.step.Statement.{statement}
-use Rattle.write.proofs.step.Tie as tie
+use Rattle.write.specs.Machine.{goes}
+use Rattle.write.proofs.Callings.{judged-whole-control, call-refused, call-admitted, goes-called}
+use Rattle.write.proofs.go.Statement.{statement}
+use Rattle.write.proofs.go.Tie as tie
 
 judge-requires : tie.Need-judge-requires
 judge-requires c κs = search needs
@@ -12,8 +12,8 @@ judge-requires c κs = search needs
 enum-told : tie.Need-enum-told
 enum-told c = search needs
 
-step-admitted-requires : tie.Need-step-admitted-requires
-step-admitted-requires c κs =
+admitted-requires : tie.Need-admitted-requires
+admitted-requires c κs =
     let a = c .before .before .before .before .before .before .before .before .before .before .before .before .before .args in
     judged-whole-control (a .st .control) (a .left .now) (a .right .now) (a .log .now) (sym (c .before .before .before .before .before .judge .ensures) ∙ c .before .before .before .enum-told .given .1)
 
@@ -35,8 +35,8 @@ same-length-3 c = search needs
 returns : tie.Need-returns
 returns c =
     let a = c .before .before .before .before .before .before .before .before .before .before .before .before .before .before .before .before .before .before .before .before .args in
-    call-admitted Step (a .st) (a .left .now) (a .right .now) (a .log .now) (c .before .before .before .before .before .before .before .before .before .before .before .before .judge .ensures) (c .before .before .before .before .before .before .before .before .before .before .enum-told .given .1)
-    (step-called (a .st) (a .left .now) (a .right .now) (a .log .now) (c .before .before .before .before .before .before .step-admitted .ensures))
+    call-admitted (goes (a .run)) (a .st) (a .left .now) (a .right .now) (a .log .now) (c .before .before .before .before .before .before .before .before .before .before .before .before .judge .ensures) (c .before .before .before .before .before .before .before .before .before .before .enum-told .given .1)
+    (goes-called (a .st) (a .left .now) (a .right .now) (a .log .now) (a .run) (c .before .before .before .before .before .before .admitted .ensures))
 
 same-length-4 : tie.Need-same-length-4
 same-length-4 c = search needs
@@ -50,15 +50,15 @@ same-length-6 c = search needs
 returns-2 : tie.Need-returns-2
 returns-2 c =
     let a = c .before .before .before .before .before .before .before .before .before .before .before .before .args in
-    call-refused Step (a .st) (a .left .now) (a .right .now) (a .log .now) (c .before .before .before .before .judge .ensures) (c .before .before .v .given .1) (c .refusal .ensures)
+    call-refused (goes (a .run)) (a .st) (a .left .now) (a .right .now) (a .log .now) (c .before .before .before .before .judge .ensures) (c .before .before .v .given .1) (c .refusal .ensures)
 
-pub step-spec : {M : Type 1} → statement M
-step-spec =
+pub go-spec : {M : Type 1} → statement M
+go-spec =
     tie.close
     (tie.spec
     judge-requires
     enum-told
-    step-admitted-requires
+    admitted-requires
     enum-known-v
     refusal-requires
     same-length
