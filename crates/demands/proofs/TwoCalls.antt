@@ -209,7 +209,7 @@ module _ {w : World} {t : Seen} (sound : SoundIn w) (inv : Inv w t) where
           let n = ctl w .length in
           let g = logged n kind key amount (w .log) in
           let ops : opsFrom (n + 1) 0 g ≡ opsOf w ++ (op ∷ []) =
-          ap (λ (x : ℕ). opsFrom x 0 g) (add-one n) ∙ ops-logged n kind key amount (w .log) (omega (arith, sound .good .words .log)) in
+          ap (λ (x : ℕ). opsFrom x 0 g) (add-one n) ∙ ops-logged n kind key amount (w .log) (omega arith) (sound .good .words .log) in
           both-back 0
           (record {
             state = record { control = withLog (n + 1) (ctl w .swapped) (ctl w); slots = w .state .slots; snapshots = w .state .snapshots };

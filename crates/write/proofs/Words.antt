@@ -86,7 +86,7 @@ module _ (n : ℕ) (g : List ℕ) (some : 0 < n) (room : n ≤ logRoom) (sized :
   length-unlogged : length (unlogged n g) ≡ logWords
   length-unlogged = rw (unlogged-closed, length-closed 3 (3 * (n - 1)) g (omega arith)) sized
 
-  moved-word : (x y : ℕ) → x < 3 * (n - 1) → y ≡ 3 + x → getD (unlogged n g) x 0 ≡ getD g y 0
+  pub moved-word : (x y : ℕ) → x < 3 * (n - 1) → y ≡ 3 + x → getD (unlogged n g) x 0 ≡ getD g y 0
   moved-word x y b e = rw (unlogged-closed, e) (closed-moved 3 (3 * (n - 1)) g x (omega arith) b)
 
   lawful-unlogged : ((i : ℕ) → i < n → lawfulAt g i ≡ true) → (i : ℕ) → i < n - 1 → lawfulAt (unlogged n g) i ≡ true
@@ -100,24 +100,24 @@ module _ (n kind key amount : ℕ) (g : List ℕ) (room : n < logRoom) (sized : 
   length-logged : length (logged n kind key amount g) ≡ logWords
   length-logged = simp length-set sized
 
-  other-word : (x : ℕ) → x < 3 * n → getD (logged n kind key amount g) x 0 ≡ getD g x 0
+  pub other-word : (x : ℕ) → x < 3 * n → getD (logged n kind key amount g) x 0 ≡ getD g x 0
   other-word x b =
       getD-set-other (set (set g (3 * n) kind) (3 * n + 1) key) (3 * n + 2) x amount 0 (omega arith)
       ∙ getD-set-other (set g (3 * n) kind) (3 * n + 1) x key 0 (omega arith)
       ∙ getD-set-other g (3 * n) x kind 0 (omega arith)
 
-  kind-word : getD (logged n kind key amount g) (3 * n) 0 ≡ kind
+  pub kind-word : getD (logged n kind key amount g) (3 * n) 0 ≡ kind
   kind-word =
       getD-set-other (set (set g (3 * n) kind) (3 * n + 1) key) (3 * n + 2) (3 * n) amount 0 (omega arith)
       ∙ getD-set-other (set g (3 * n) kind) (3 * n + 1) (3 * n) key 0 (omega arith)
       ∙ getD-set-same g (3 * n) kind 0 (omega arith)
 
-  key-word : getD (logged n kind key amount g) (3 * n + 1) 0 ≡ key
+  pub key-word : getD (logged n kind key amount g) (3 * n + 1) 0 ≡ key
   key-word =
       getD-set-other (set (set g (3 * n) kind) (3 * n + 1) key) (3 * n + 2) (3 * n + 1) amount 0 (omega arith)
       ∙ getD-set-same (set g (3 * n) kind) (3 * n + 1) key 0 (rw (length-set g (3 * n) kind) (omega arith))
 
-  amount-word : getD (logged n kind key amount g) (3 * n + 2) 0 ≡ amount
+  pub amount-word : getD (logged n kind key amount g) (3 * n + 2) 0 ≡ amount
   amount-word =
       getD-set-same (set (set g (3 * n) kind) (3 * n + 1) key) (3 * n + 2) amount 0
       (rw (length-set (set g (3 * n) kind) (3 * n + 1) key, length-set g (3 * n) kind) (omega arith))
