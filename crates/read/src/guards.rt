@@ -92,13 +92,9 @@ pub fn no_slot() -> Slot
 pub fn new_slot() -> Slot
     ensures { λ r. ⌜ r ≡ newSlot ⌝ }
 {
-    let none = no_guards();
-    Slot {
-        used: true,
-        epoch: 0,
-        guards: none,
-        due: Due::Nothing,
-    }
+    let mut s = no_slot();
+    s.used = true;
+    s
 }
 
 // The slot with another epoch and another step due.
@@ -118,14 +114,9 @@ fn with_due(epoch: u64, d: Due, s: Slot) -> Slot
 pub fn freed(s: Slot) -> Slot
     ensures { λ r. ⌜ r ≡ freedRule s ⌝ }
 {
-    let g = s.guards;
-    let d = s.due;
-    Slot {
-        used: false,
-        epoch: s.epoch,
-        guards: g,
-        due: d,
-    }
+    let mut t = s;
+    t.used = false;
+    t
 }
 
 // Guard `j` becomes `x`.

@@ -100,14 +100,9 @@ pub(crate) fn step_signs(column: usize, c: Control) -> Signs
 fn stirred(s: Slot) -> Slot
     ensures { λ r. ⌜ r ≡ withDue ((s .epoch + 2) % 2 ^ 64) (s .due) s ⌝ }
 {
-    let g = s.guards;
-    let d = s.due;
-    Slot {
-        used: s.used,
-        epoch: std::num::wrapping_add_u64(s.epoch, 2),
-        guards: g,
-        due: d,
-    }
+    let mut t = s;
+    t.epoch = std::num::wrapping_add_u64(s.epoch, 2);
+    t
 }
 
 fn value(v: u64, c: Control, s: Slot, e: u64) -> Moved

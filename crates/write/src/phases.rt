@@ -207,74 +207,37 @@ pub(crate) fn with_job(job: Job, c: Control) -> Control
 pub(crate) fn with_log(n: usize, s: usize, c: Control) -> Control
     ensures { λ r. ⌜ r ≡ withLog n s c ⌝ }
 {
-    let phase = c.phase;
-    let job = c.job;
-    Control {
-        right: c.right,
-        null: c.null,
-        lock: c.lock,
-        first: c.first,
-        second: c.second,
-        phase: phase,
-        job: job,
-        length: n,
-        swapped: s,
-    }
+    let mut d = c;
+    d.length = n;
+    d.swapped = s;
+    d
 }
 
 pub(crate) fn copied(c: Control) -> Control
     ensures { λ r. ⌜ r ≡ copiedRule c ⌝ }
 {
-    let phase = c.phase;
-    let job = c.job;
-    Control {
-        right: c.right,
-        null: c.null,
-        lock: c.lock,
-        first: c.first,
-        second: false,
-        phase: phase,
-        job: job,
-        length: c.length,
-        swapped: c.swapped,
-    }
+    let mut d = c;
+    d.second = false;
+    d
 }
 
 // The pointer changes side, and the whole log stands in the copy that is read.
 pub(crate) fn swapped_over(c: Control) -> Control
     ensures { λ r. ⌜ r ≡ swappedOver c ⌝ }
 {
-    let phase = c.phase;
-    let job = c.job;
-    Control {
-        right: !c.right,
-        null: c.null,
-        lock: c.lock,
-        first: false,
-        second: c.second,
-        phase: phase,
-        job: job,
-        length: c.length,
-        swapped: c.length,
-    }
+    let mut d = c;
+    d.right = !c.right;
+    d.first = false;
+    d.swapped = c.length;
+    d
 }
 
 pub(crate) fn nulled(c: Control) -> Control
     ensures { λ r. ⌜ r ≡ nulledRule c ⌝ }
 {
-    let phase = c.phase;
-    let job = c.job;
-    Control {
-        right: c.right,
-        null: true,
-        lock: c.lock,
-        first: c.first,
-        second: c.second,
-        phase: phase,
-        job: job,
-        length: c.length,
-        swapped: c.swapped,
-    }
+    let mut d = c;
+    d.null = true;
+    d
 }
 
 // A publish ends.
