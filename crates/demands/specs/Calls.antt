@@ -1,0 +1,95 @@
+-- A call by its number in a schedule, with the slot and the guard that it names.
+use Prim.Native.Nat.{ℕ}
+use mathlib.Core.Bool.{Bool, true, false, _&&_}
+use lib.Dec.{eqb, leb}
+use Rattle.table.specs.Copy.{lawful}
+use Rattle.read.specs.declared.Handle.{Handle}
+use Rattle.read.specs.declared.Handle.the-variants.{Drop, Enter, GoOn, Release, LookUp, WasDropped}
+use Rattle.write.specs.declared.Opening.{Opening}
+use Rattle.write.specs.declared.Opening.the-variants.{Publish, Try, Flush, Take}
+use Rattle.write.specs.declared.Call.{Call}
+use Rattle.write.specs.declared.Call.the-variants.{Create, On, Append, Open, Step, Run}
+
+abbrev pub handleNumber : Handle → ℕ
+handleNumber Drop = 2
+handleNumber Enter = 3
+handleNumber GoOn = 4
+handleNumber (Release j) = 5
+handleNumber (LookUp j key) = 6
+handleNumber WasDropped = 7
+
+abbrev pub openingNumber : Opening → ℕ
+openingNumber Publish = 9
+openingNumber Try = 10
+openingNumber Flush = 11
+openingNumber Take = 12
+
+abbrev pub callNumber : Call → ℕ
+callNumber Create = 1
+callNumber (On i h) = handleNumber h
+callNumber (Append kind key amount) = 8
+callNumber (Open o) = openingNumber o
+callNumber Step = 13
+callNumber Run = 14
+
+abbrev pub is : ℕ → Call → Bool
+is n k = eqb (callNumber k) n
+
+abbrev pub among : ℕ → ℕ → Call → Bool
+among m n k = leb m (callNumber k) && leb (callNumber k) n
+
+abbrev pub isStep : Call → Bool
+isStep Create = false
+isStep (On i h) = false
+isStep (Append kind key amount) = false
+isStep (Open o) = false
+isStep Step = true
+isStep Run = false
+
+abbrev pub isRun : Call → Bool
+isRun Create = false
+isRun (On i h) = false
+isRun (Append kind key amount) = false
+isRun (Open o) = false
+isRun Step = false
+isRun Run = true
+
+abbrev pub isTry : Opening → Bool
+isTry o = is 10 (Open o)
+
+abbrev pub isTake : Opening → Bool
+isTake o = is 12 (Open o)
+
+-- 0 where the call names none
+abbrev pub slotOf : Call → ℕ
+slotOf Create = 0
+slotOf (On i h) = i
+slotOf (Append kind key amount) = 0
+slotOf (Open o) = 0
+slotOf Step = 0
+slotOf Run = 0
+
+abbrev pub namedGuard : Handle → ℕ
+namedGuard Drop = 0
+namedGuard Enter = 0
+namedGuard GoOn = 0
+namedGuard (Release j) = j
+namedGuard (LookUp j key) = j
+namedGuard WasDropped = 0
+
+abbrev pub guardOf : Call → ℕ
+guardOf Create = 0
+guardOf (On i h) = namedGuard h
+guardOf (Append kind key amount) = 0
+guardOf (Open o) = 0
+guardOf Step = 0
+guardOf Run = 0
+
+-- kind, key and amount are an operation's; a call that has none is lawful
+abbrev pub isLawful : Call → Bool
+isLawful Create = true
+isLawful (On i h) = true
+isLawful (Append kind key amount) = lawful kind key amount
+isLawful (Open o) = true
+isLawful Step = true
+isLawful Run = true
