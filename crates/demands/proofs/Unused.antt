@@ -40,6 +40,8 @@ use Rattle.write.proofs.Verdicts.{judging}
 use Rattle.write.proofs.Control.{Placed}
 use Rattle.write.proofs.NeverBroken.{sound-step}
 use Rattle.demands.specs.History.{World, freshWorld, worldOf, next}
+use Rattle.demands.specs.Calls.{isRun}
+use Rattle.demands.proofs.TwoGuards.{clash}
 use Rattle.demands.proofs.Sides.{readCopy}
 use Rattle.demands.proofs.TwoLog.{over-whole}
 use Rattle.demands.proofs.TwoLifts.{ctl}
@@ -208,28 +210,17 @@ module _ {w : World} (sound : SoundIn w) (u : Unused w) where
   unfolding stepOn
   stepOn-unused = step-unused _ _ _ (ctl w .phase) (sound .good .whole .placed)
 
--- ---- run
-
-steps-unused : (k n : ℕ) (w : World) → SoundIn w → Unused w → UnusedOut (steps k n (w .state) (w .left) (w .right) (w .log))
-unfolding steps
-steps-unused zero n w sound u = u
-steps-unused (suc k) n w sound u =
-    let o = stepOn (w .state) (w .left) (w .right) (w .log) in
-    let x : UnusedOut o = stepOn-unused sound u in
-    going-on UnusedOut (steps k (n + 1)) n o
-    (λ z. steps-unused k (n + 1) (worldOf o) (sound-step (w .state) (w .left) (w .right) (w .log) sound) x) (λ b z. x)
-
--- ---- every call
+-- ---- every call but run, which is its steps
 
 module _ {w : World} (sound : SoundIn w) (u : Unused w) where
-  callOn-unused : (k : Call) → UnusedOut (callOn k (w .state) (w .left) (w .right) (w .log))
-  unfolding callOn runOn
-  callOn-unused Create = create-unused sound u (firstFree (w .state .slots))
-  callOn-unused (On i h) = handle-unused sound u i h
-  callOn-unused (Append kind key amount) = append-unused sound u 0 _ _ kind key amount
-  callOn-unused (Open o) = open-unused sound u 0 _ _ o
-  callOn-unused Step = judging UnusedOut (smallest (stepSigns 12 (ctl w))) (λ v. stepOn-unused sound u) (λ b v. u)
-  callOn-unused Run = judging UnusedOut (smallest (stepSigns 13 (ctl w))) (λ v. steps-unused (left (ctl w)) 0 w sound u) (λ b v. u)
+  callOn-unused : (k : Call) → isRun k ≡ false → UnusedOut (callOn k (w .state) (w .left) (w .right) (w .log))
+  unfolding callOn
+  callOn-unused Create q = create-unused sound u (firstFree (w .state .slots))
+  callOn-unused (On i h) q = handle-unused sound u i h
+  callOn-unused (Append kind key amount) q = append-unused sound u 0 _ _ kind key amount
+  callOn-unused (Open o) q = open-unused sound u 0 _ _ o
+  callOn-unused Step q = judging UnusedOut (smallest (stepSigns 12 (ctl w))) (λ v. stepOn-unused sound u) (λ b v. u)
+  callOn-unused Run q = clash refl q
 
-pub call-unused : {w : World} → SoundIn w → Unused w → (k : Call) → Unused (next callRule k w)
-call-unused {w} sound u k = of-rule UnusedOut k w sound (callOn-unused sound u k)
+pub call-unused : {w : World} → SoundIn w → Unused w → (k : Call) → isRun k ≡ false → Unused (next callRule k w)
+call-unused {w} sound u k q = of-rule UnusedOut k w sound (callOn-unused sound u k q)
