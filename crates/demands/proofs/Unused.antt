@@ -33,20 +33,19 @@ use Rattle.write.specs.declared.Call.{Call}
 use Rattle.write.specs.declared.Call.the-variants.{Create, On, Append, Open, Step, Run}
 use Rattle.write.specs.Steps.{holds, ofLeft, ofRight, operated, logApplied, over, unlogged, snapping, swappedOver, stopped, stepAt}
 use Rattle.write.specs.Begins.{stepSigns, logged, opened, appendOn, openOn}
-use Rattle.write.specs.Runs.{lift, stepOn, steps, left, runOn}
+use Rattle.write.specs.Runs.{lift, stepOn, left}
 use Rattle.write.specs.Machine.{callOn, callRule}
-use Rattle.write.proofs.Cases.{by, below, append-cases, open-cases, snapping-cases, going-on}
+use Rattle.write.proofs.Cases.{by, below, append-cases, open-cases, snapping-cases}
 use Rattle.write.proofs.Verdicts.{judging}
 use Rattle.write.proofs.Control.{Placed}
-use Rattle.write.proofs.NeverBroken.{sound-step}
 use Rattle.demands.specs.History.{World, freshWorld, worldOf, next}
 use Rattle.demands.specs.Calls.{isRun}
-use Rattle.demands.proofs.TwoGuards.{clash}
 use Rattle.demands.proofs.Sides.{readCopy}
 use Rattle.demands.proofs.TwoLog.{over-whole}
 use Rattle.demands.proofs.TwoLifts.{ctl}
-use Rattle.demands.proofs.TwoSteps.{SoundIn}
-use Rattle.demands.proofs.ThreeKept.{of-rule}
+use Rattle.demands.proofs.Sound.{SoundIn}
+use Rattle.demands.proofs.Sound.{of-rule}
+use Rattle.demands.proofs.Booleans.{clash}
 
 -- the words of a log behind n operations are zero
 abbrev pub ClearLog : ℕ → List ℕ → Type 0

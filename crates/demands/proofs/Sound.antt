@@ -1,0 +1,21 @@
+-- Worlds on which no call is refused by the judgement.
+use mathlib.Core.Path.{_≡_, sym, subst}
+use Rattle.read.specs.declared.Reply.{Reply}
+use Rattle.read.specs.Calls.{Lent}
+use Rattle.write.specs.declared.Call.{Call}
+use Rattle.write.specs.Machine.{callOn, callRule}
+use Rattle.write.proofs.NeverBroken.{Sound, call-made, sound-call}
+use Rattle.demands.specs.History.{World, reply, next}
+
+abbrev pub SoundIn : World → Type 0
+SoundIn w = Sound (w .state) (w .left) (w .right) (w .log)
+
+pub below : (k : Call) (w : World) → SoundIn w → reply callRule k w ≡ reply callOn k w
+below k w h = call-made k (w .state) (w .left) (w .right) (w .log) h
+
+-- so what holds below the judgement holds
+pub of-rule : (P : Lent Reply → Type 0) (k : Call) (w : World) → SoundIn w → P (reply callOn k w) → P (reply callRule k w)
+of-rule P k w h x = subst P (sym (below k w h)) x
+
+pub sound-next : (k : Call) (w : World) → SoundIn w → SoundIn (next callRule k w)
+sound-next k w h = sound-call k (w .state) (w .left) (w .right) (w .log) h
