@@ -151,8 +151,8 @@ pub fn flush(st: State, left: &[u64], right: &[u64], log: &[u64]) -> Reply
     begin(Opening::Flush, st, left, right, log)
 }
 
-// Begins a take. Its steps publish what is left, make the pointer null and wait for every reader; then the writer is gone, and the
-// copy that the pointer named last is handed over.
+// Begins a take. Its steps publish what is left, make the pointer null and wait for the readers that are inside; then the writer is
+// gone, and the copy that the pointer named last is handed over.
 pub fn take(st: State, left: &[u64], right: &[u64], log: &[u64]) -> Reply
     ensures { λ r. ⌜ lent r (now (left .entry)) (now (right .entry)) (now (log .entry)) ≡ callRule (Call.Open Opening.Take) st (now (left .entry)) (now (right .entry)) (now (log .entry)) ⌝ }
 {
