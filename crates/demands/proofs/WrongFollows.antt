@@ -87,6 +87,11 @@ pub inventsValue-wrong-at-end : Follows inventsValue → ⊥
 unfolding tells
 inventsValue-wrong-at-end h = differ refl (h .ends [] Publish refl refl (Run ∷ []) .at-end refl refl)
 
+-- left
+pub acceptsBusy-wrong-left : Follows acceptsBusy → ⊥
+unfolding tells
+acceptsBusy-wrong-left h = apart length refl (h .ends [] Publish refl refl (Step ∷ Open Publish ∷ []) .left refl)
+
 -- published
 pub acceptsBusy-wrong-published : Follows acceptsBusy → ⊥
 unfolding tells
