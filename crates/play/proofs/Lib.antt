@@ -2,6 +2,7 @@
 pub mod Numbers
 pub mod Records
 pub mod Rule
+pub mod Refusals
 pub mod Due
 pub mod StepsDue
 pub mod Plays

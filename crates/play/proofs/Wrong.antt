@@ -1,12 +1,13 @@
 -- Wrong players, each with one part of the right one changed, and for each a proof that the promise is false of it: one file where the
 -- two differ, computed.
-use Prim.Native.Nat.{ℕ, zero, suc, _+_, _-_, _*_, _/_, _^_}
+use Prim.Native.Nat.{ℕ, zero, suc, _+_, _-_, _*_, _/_, _^_, _≤_}
 use mathlib.Core.Path.{_≡_, refl, ap, _∙_}
 use mathlib.Core.Bool.{true, false}
 use mathlib.Core.List.{List, [], _∷_, _++_}
+use native.Mathlib.Omega.{arith}
 use borrow.Author.Tests.{eqb-false}
 use lib.Dec.{eqb, ltb, leb}
-use lib.ListN.{length, getD, take, drop, replicate}
+use lib.ListN.{length, getD, take, drop, set, replicate}
 use Rattle.table.proofs.Computes.{apart}
 use Rattle.table.specs.Answers.{number}
 use Rattle.table.specs.Copy.{words}
@@ -21,13 +22,11 @@ use Rattle.write.specs.Machine.{callRule}
 use Rattle.play.specs.declared.Flaw.{Flaw}
 use Rattle.play.specs.Schedule.{numberAt, bytesOf, headBytes, recordBytes, count, startOf, marked, versionOf, torn, firstUnknown, callOf, decoded, callsFrom}
 use Rattle.play.specs.Player.{entryBytes, entryOf, transcript, played, flaw, flawOf, refusalOf, Output, output, playRule}
+use Rattle.play.specs.Refusals.{Player, Applies, Refusals}
 use Rattle.play.proofs.Computes.{rules}
 use Rattle.play.proofs.Ends.{head, recordOf, p1}
 
 -- ---- the promise, of any player
-
-abbrev Player : Type 0
-Player = List ℕ → List ℕ → Output
 
 abbrev Keeps : Player → Type 0
 Keeps play = (s out : List ℕ) → play s out ≡ playRule s out
@@ -175,7 +174,10 @@ invents h = apart (byte 28) refl (h p1 (replicate 63 0))
 -- ---- the output past the transcript is touched
 
 abbrev wiping : Player
-wiping s out = let o = playRule s out in output (o .result) (take (o .result .written) (o .bytes) ++ replicate (length out) 0)
+wiping s out =
+    let o = playRule s out in
+    let n = o .result .written in
+    output (o .result) (take n (o .bytes) ++ replicate (length out - n) 0)
 
 wipes : Keeps wiping → ⊥
 unfolding rules
@@ -191,11 +193,37 @@ unfolding rules
 refuses h = apart (λ o. o .result .answer) refl (h head [])
 
 abbrev hasty : Player
-hasty s out = output (playRule s out .result) (0 ∷ drop 1 out)
+hasty s out =
+    let o = playRule s out in
+    elim (eqb (o .result .answer) 0) [ true ↦ o | false ↦ output (o .result) (set out 0 0) ]
 
 hurries : Keeps hasty → ⊥
 unfolding rules
 hurries h = apart (byte 0) refl (h [] (170 ∷ []))
+
+-- ---- the refusals, as `Refusals` has them
+
+-- a byte is written for a refused file
+hasty-refusal : Refusals hasty → ⊥
+unfolding rules
+hasty-refusal h = apart (λ w. getD w 0 0) refl (h [] (170 ∷ []) .1 (eqb-false 21 0 refl) .untouched)
+
+-- bytes are reported for a refused file
+abbrev boasting : Player
+boasting s out = let o = playRule s out in output (record { answer = o .result .answer; written = entryBytes * count s }) (o .bytes)
+
+boasting-refusal : Refusals boasting → ⊥
+unfolding rules
+boasting-refusal h = eqb-false 63 0 refl (h p1 [] .1 (eqb-false 25 0 refl) .reported)
+
+-- 24 is given where 23 applies
+unknown-first-refusal : Refusals (playBy unknownFirst decoded callRule entryBytes entryOf) → ⊥
+unfolding rules
+unknown-first-refusal h =
+    let s = head ++ (recordOf 15 0 0 0 0 0 ++ (0 ∷ [])) in
+    let t : Applies s [] 23 = Applies.torn (λ n e. let d : 26 ≡ 5 + 20 * n = e in omega arith) in
+    let l : 24 ≤ 23 = h s [] .1 (eqb-false 24 0 refl) .smallest 23 t in
+    omega arith
 
 -- ---- the public parts
 

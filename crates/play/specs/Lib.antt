@@ -1,3 +1,4 @@
 pub mod Schedule
 pub mod Player
+pub mod Refusals
 pub mod Turns

@@ -8,4 +8,5 @@ pub mod Touch
 pub mod Parity
 pub mod Determined
 pub mod Computes
+pub mod Promises
 pub mod Wrong

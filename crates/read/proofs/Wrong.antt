@@ -1,6 +1,7 @@
--- Wrong programs, as definitions on the rules' values, and for each a proof that the promise is false of it: one call where the two differ.
+-- Wrong programs, as definitions on the rules' values, and for each a proof that the contract's promise (`Promises`) is false of it: one
+-- call, on values that the source's types have, where what the program does wrong is read off.
 use Prim.Native.Nat.{ℕ, _+_, _-_, _^_}
-use mathlib.Core.Path.{_≡_, refl}
+use mathlib.Core.Path.{refl}
 use mathlib.Core.Bool.{Bool, true, false, not, _&&_, _||_}
 use mathlib.Core.List.{List, [], _∷_, _++_}
 use lib.Dec.{eqb, ltb}
@@ -25,35 +26,19 @@ use Rattle.read.specs.declared.Verdict.the-variants.{Admitted, Refused}
 use Rattle.read.specs.declared.Signs.{Signs}
 use Rattle.read.specs.declared.Made.{Made}
 use Rattle.read.specs.declared.Reply.{Reply}
-use Rattle.read.specs.Machine.{guardCount, logWords, shut, noGuards, isOpen, standsRight, putGuard, same, firstGuard, anyOpen, allOpen, isDue, isLoad, noSlot, newSlot, isGone, underway, locks, nulls, sized, wholeControl, glanced, judged, fresh}
+use Rattle.read.specs.Machine.{slotCount, guardCount, logWords, shut, noGuards, isOpen, standsRight, putGuard, same, firstGuard, anyOpen, allOpen, isDue, isLoad, noSlot, newSlot, isGone, underway, wholeControl, glanced, judged, fresh}
 use Rattle.read.specs.Admission.{row, column, entry}
-use Rattle.read.specs.Handles.{smallest, handleSigns, bumped, withDue, freed, loaded, entered, wentOn, released, copyOf, guardedCopy, handleOn}
-use Rattle.read.specs.Calls.{slotAt, withSlot, refusal, Lent, lent, firstFree, handleRule, createRule, viewRule, pairRule, startRule}
+use Rattle.read.specs.Handles.{smallest, handleSigns, bumped, withDue, loaded, entered, wentOn, released, copyOf}
+use Rattle.read.specs.Calls.{slotAt, withSlot, refusal, Lent, lent, handleReply, firstFree, handleRule, createRule, viewRule, pairRule, startRule}
 use Rattle.table.proofs.Computes.{apart}
 use Rattle.read.proofs.Computes.{rules}
-
--- ---- the promises, of any program: its result is the rule's at all arguments
-
-abbrev Keeps1 : {A R : Type 0} → (A → R) → (A → R) → Type 0
-Keeps1 {A = A} rule f = (a : A) → f a ≡ rule a
-
-abbrev Keeps2 : {A B R : Type 0} → (A → B → R) → (A → B → R) → Type 0
-Keeps2 {A = A} rule f = (a : A) → Keeps1 (rule a) (f a)
-
-abbrev Keeps3 : {A B C R : Type 0} → (A → B → C → R) → (A → B → C → R) → Type 0
-Keeps3 {A = A} rule f = (a : A) → Keeps2 (rule a) (f a)
-
-abbrev Keeps4 : {A B C D R : Type 0} → (A → B → C → D → R) → (A → B → C → D → R) → Type 0
-Keeps4 {A = A} rule f = (a : A) → Keeps3 (rule a) (f a)
-
-abbrev Keeps5 : {A B C D E R : Type 0} → (A → B → C → D → E → R) → (A → B → C → D → E → R) → Type 0
-Keeps5 {A = A} rule f = (a : A) → Keeps4 (rule a) (f a)
-
-abbrev Keeps6 : {A B C D E F R : Type 0} → (A → B → C → D → E → F → R) → (A → B → C → D → E → F → R) → Type 0
-Keeps6 {A = A} rule f = (a : A) → Keeps5 (rule a) (f a)
-
-abbrev Keeps7 : {A B C D E F G R : Type 0} → (A → B → C → D → E → F → G → R) → (A → B → C → D → E → F → G → R) → Type 0
-Keeps7 {A = A} rule f = (a : A) → Keeps6 (rule a) (f a)
+use Rattle.read.proofs.Promises.{Slice, slice, RowPromise, EntryPromise, ColumnPromise, FirstGuardPromise, IsOpenPromise}
+use Rattle.read.proofs.Promises.{AnyOpenPromise, AllOpenPromise, IsDuePromise, IsLoadPromise, NoSlotPromise, NewSlotPromise}
+use Rattle.read.proofs.Promises.{FreedPromise, EnteredPromise, WentOnPromise, ReleasedPromise, SignsPromise, GuardedCopyPromise}
+use Rattle.read.proofs.Promises.{HandlePromise, EitherPromise, SmallestPromise, LocksPromise, NullsPromise, SamePromise}
+use Rattle.read.proofs.Promises.{SizedPromise, GlancePromise, JudgePromise, StartPromise, CreatePromise, DropPromise, EnterPromise}
+use Rattle.read.proofs.Promises.{GoOnPromise, WasDroppedPromise, OnHandlePromise, ReleasePromise, LookUpPromise, ViewPromise}
+use Rattle.read.proofs.Promises.{PairPromise}
 
 -- ---- what the witnesses are made of
 
@@ -75,18 +60,26 @@ word i w = getD w i 0
 abbrev opens : ℕ → Slot → ℕ
 opens j s = bit (isOpen (s .guards) j)
 
--- a lent copy that begins with these words, and an empty log
+-- a lent copy that begins with these words
 abbrev copyWith : List ℕ → List ℕ
 copyWith ws = ws ++ replicate (words - length ws) 0
 
-abbrev none : List ℕ
-none = copyWith []
+abbrev none : Slice
+none = slice (copyWith []) refl
 
-abbrev seven : List ℕ
-seven = copyWith (1 ∷ 0 ∷ 7 ∷ 3 ∷ [])
+-- key 7 has another count on each side
+abbrev left7 : Slice
+left7 = slice (copyWith (1 ∷ 0 ∷ 7 ∷ 3 ∷ [])) refl
 
-abbrev noLog : List ℕ
-noLog = replicate logWords 0
+abbrev right7 : Slice
+right7 = slice (copyWith (1 ∷ 0 ∷ 7 ∷ 4 ∷ [])) refl
+
+-- an empty log, and a slice of no words
+abbrev noLog : Slice
+noLog = slice (replicate logWords 0) refl
+
+abbrev noWords : Slice
+noWords = slice [] refl
 
 -- guards on the left and on the right copy
 abbrev onLeft : Guard
@@ -97,6 +90,9 @@ onRight = record { opened = true; right = true }
 
 abbrev one : List Guard
 one = onLeft ∷ shut ∷ shut ∷ shut ∷ []
+
+abbrev second : List Guard
+second = shut ∷ onLeft ∷ shut ∷ shut ∷ []
 
 abbrev two : List Guard
 two = onLeft ∷ onRight ∷ shut ∷ shut ∷ []
@@ -117,7 +113,7 @@ machine s = withSlot 1 s fresh
 abbrev controlled : Control → State → State
 controlled c st = record { control = c; slots = st .slots; snapshots = st .snapshots }
 
--- idle; under way, with the lock; after take
+-- idle; under way, with the lock; at take's finish; after it
 abbrev idle : Control
 idle = fresh .control
 
@@ -125,11 +121,19 @@ abbrev polling : Control
 polling =
     record { right = false; null = false; lock = true; first = false; second = true; phase = Poll 0; job = Publish; length = 0; swapped = 0 }
 
+abbrev finishing : Control
+finishing =
+    record { right = false; null = true; lock = true; first = false; second = false; phase = Phase.Finish; job = Publish; length = 0; swapped = 0 }
+
 abbrev gone : Control
 gone =
     record { right = false; null = true; lock = false; first = false; second = false; phase = Gone; job = Publish; length = 0; swapped = 0 }
 
--- one operation in the log, which is none in `noLog`
+-- broken by itself: idle with the lock; and by its log: one operation, which is none in `noLog`
+abbrev broken : Control
+broken =
+    record { right = false; null = false; lock = true; first = true; second = true; phase = Idle; job = Publish; length = 0; swapped = 0 }
+
 abbrev unlawful : Control
 unlawful =
     record { right = false; null = false; lock = false; first = false; second = true; phase = Idle; job = Publish; length = 1; swapped = 0 }
@@ -140,119 +144,124 @@ unlawful =
 abbrev fromOne : Phase → ℕ
 fromOne p = row p + 1
 
-fromOne-wrong : Keeps1 row fromOne → ⊥
-fromOne-wrong h = apart itself refl (h Idle)
+fromOne-wrong : RowPromise fromOne → ⊥
+fromOne-wrong h = apart itself refl (h Idle refl)
 
 -- every phase is in the row of idle
 abbrev oneRow : Phase → ℕ
 oneRow p = row Idle
 
-oneRow-wrong : Keeps1 row oneRow → ⊥
-oneRow-wrong h = apart itself refl (h Gone)
+oneRow-wrong : RowPromise oneRow → ⊥
+oneRow-wrong h = apart itself refl (h Gone refl)
 
 -- create goes through under the lock
 abbrev createPasses : Phase → ℕ → ℕ
 createPasses p c = elim (eqb c 0) [ true ↦ 0 | false ↦ entry p c ]
 
-createPasses-wrong : Keeps2 entry createPasses → ⊥
+createPasses-wrong : EntryPromise createPasses → ⊥
 unfolding rules
-createPasses-wrong h = apart itself refl (h (Poll 0) 0)
+createPasses-wrong h = apart itself refl (h (Poll 0) 0 refl)
 
 -- slot 0 is admitted under way
 abbrev ownPasses : Phase → ℕ → ℕ
-ownPasses p c = elim (ltb c 14) [ true ↦ entry p c | false ↦ 0 ]
+ownPasses p c = elim (ltb c 15) [ true ↦ entry p c | false ↦ 0 ]
 
-ownPasses-wrong : Keeps2 entry ownPasses → ⊥
+ownPasses-wrong : EntryPromise ownPasses → ⊥
 unfolding rules
-ownPasses-wrong h = apart itself refl (h (Poll 0) 16)
+ownPasses-wrong h = apart itself refl (h (Poll 0) 16 refl)
 
 -- slot 0 is as any other
 abbrev noOwn : Handle → Bool → ℕ
 noOwn h own = column h false
 
-noOwn-wrong : Keeps2 column noOwn → ⊥
-noOwn-wrong h = apart itself refl (h Drop true)
+noOwn-wrong : ColumnPromise noOwn → ⊥
+noOwn-wrong h = apart itself refl (h Drop true refl)
 
 -- every call is in one column
 abbrev oneColumn : Handle → Bool → ℕ
 oneColumn h own = column Drop own
 
-oneColumn-wrong : Keeps2 column oneColumn → ⊥
-oneColumn-wrong h = apart itself refl (h Enter false)
+oneColumn-wrong : ColumnPromise oneColumn → ⊥
+oneColumn-wrong h = apart itself refl (h Enter false refl)
 
 -- ---- guards
 
 -- the last guard of the kind
 abbrev lastGuard : Bool → List Guard → ℕ
-lastGuard want gs = 3 - seek (λ j. same want (isOpen gs (3 - j))) 0 guardCount
+lastGuard want gs =
+    elim (ltb (firstGuard want gs) guardCount)
+    [ true ↦ 3 - seek (λ j. same want (isOpen gs (3 - j))) 0 guardCount | false ↦ guardCount ]
 
-lastGuard-wrong : Keeps2 firstGuard lastGuard → ⊥
+lastGuard-wrong : FirstGuardPromise lastGuard → ⊥
 unfolding rules
-lastGuard-wrong h = apart itself refl (h false one)
+lastGuard-wrong h = apart itself refl (h false one refl)
 
 -- what is wanted is not looked at
 abbrev firstShut : Bool → List Guard → ℕ
 firstShut want gs = firstGuard false gs
 
-firstShut-wrong : Keeps2 firstGuard firstShut → ⊥
+firstShut-wrong : FirstGuardPromise firstShut → ⊥
 unfolding rules
-firstShut-wrong h = apart itself refl (h true one)
+firstShut-wrong h = apart itself refl (h true one refl)
 
--- a fifth guard is there
+-- a number over 3 is the last guard's
 abbrev openPast : List Guard → ℕ → Bool
-openPast gs j = getD gs j shut .opened
+openPast gs j = elim (ltb j guardCount) [ true ↦ isOpen gs j | false ↦ isOpen gs 3 ]
 
-openPast-wrong : Keeps2 isOpen openPast → ⊥
-openPast-wrong h = apart bit refl (h (onLeft ∷ four) 4)
+openPast-wrong : IsOpenPromise openPast → ⊥
+openPast-wrong h = apart bit refl (h four 4 refl)
 
-neverOpen-wrong : Keeps2 isOpen (λ gs j. false) → ⊥
-neverOpen-wrong h = apart bit refl (h one 0)
+-- no guard is open
+neverOpen-wrong : IsOpenPromise (λ gs j. false) → ⊥
+neverOpen-wrong h = apart bit refl (h one 0 refl)
 
 -- guard 0 stands for all
 abbrev firstOpen : List Guard → Bool
 firstOpen gs = isOpen gs 0
 
-firstOpen-any-wrong : Keeps1 anyOpen firstOpen → ⊥
+firstOpen-any-wrong : AnyOpenPromise firstOpen → ⊥
 unfolding rules
-firstOpen-any-wrong h = apart bit refl (h (shut ∷ one))
+firstOpen-any-wrong h = apart bit refl (h second refl)
 
-firstOpen-all-wrong : Keeps1 allOpen firstOpen → ⊥
+firstOpen-all-wrong : AllOpenPromise firstOpen → ⊥
 unfolding rules
-firstOpen-all-wrong h = apart bit refl (h one)
+firstOpen-all-wrong h = apart bit refl (h one refl)
 
-allOpen-any-wrong : Keeps1 anyOpen allOpen → ⊥
+-- any and all are one
+allOpen-any-wrong : AnyOpenPromise allOpen → ⊥
 unfolding rules
-allOpen-any-wrong h = apart bit refl (h one)
+allOpen-any-wrong h = apart bit refl (h one refl)
 
-anyOpen-all-wrong : Keeps1 allOpen anyOpen → ⊥
+anyOpen-all-wrong : AllOpenPromise anyOpen → ⊥
 unfolding rules
-anyOpen-all-wrong h = apart bit refl (h two)
+anyOpen-all-wrong h = apart bit refl (h two refl)
 
--- a load alone is due
-isLoad-due-wrong : Keeps1 isDue isLoad → ⊥
-isLoad-due-wrong h = apart bit refl (h Restore)
+-- a load alone is due, and all that is due is a load
+isLoad-due-wrong : IsDuePromise isLoad → ⊥
+isLoad-due-wrong h = apart bit refl (h Restore refl)
 
-isDue-load-wrong : Keeps1 isLoad isDue → ⊥
-isDue-load-wrong h = apart bit refl (h Restore)
+isDue-load-wrong : IsLoadPromise isDue → ⊥
+isDue-load-wrong h = apart bit refl (h Restore refl)
 
-always-due-wrong : Keeps1 isDue (λ d. true) → ⊥
-always-due-wrong h = apart bit refl (h Nothing)
+always-due-wrong : IsDuePromise (λ d. true) → ⊥
+always-due-wrong h = apart bit refl (h Nothing refl)
 
-never-load-wrong : Keeps1 isLoad (λ d. false) → ⊥
-never-load-wrong h = apart bit refl (h Load)
+never-load-wrong : IsLoadPromise (λ d. false) → ⊥
+never-load-wrong h = apart bit refl (h Load refl)
 
--- a new slot is in use and a free one is not; both begin at epoch 0
-newSlot-no-wrong : newSlot ≡ noSlot → ⊥
-newSlot-no-wrong = apart (λ s. bit (s .used)) refl
+-- a free slot that is in use, and one with a step due
+newSlot-no-wrong : NoSlotPromise newSlot → ⊥
+newSlot-no-wrong h = apart (λ s. bit (s .used)) refl (h refl)
 
-noSlot-new-wrong : noSlot ≡ newSlot → ⊥
-noSlot-new-wrong = apart (λ s. bit (s .used)) refl
+dueLoad-no-wrong : NoSlotPromise (withDue 0 Load noSlot) → ⊥
+dueLoad-no-wrong h = apart (λ s. bit (isDue (s .due))) refl (h refl)
 
-epochOne-new-wrong : slotWith 1 noGuards Nothing ≡ newSlot → ⊥
-epochOne-new-wrong = apart (λ s. s .epoch) refl
+-- a new slot that is free, and one that begins at epoch 1
+noSlot-new-wrong : NewSlotPromise noSlot → ⊥
+noSlot-new-wrong h = apart (λ s. bit (s .used)) refl (h refl)
 
-dueLoad-no-wrong : withDue 0 Load noSlot ≡ noSlot → ⊥
-dueLoad-no-wrong = apart (λ s. bit (isDue (s .due))) refl
+epochOne-new-wrong : NewSlotPromise (slotWith 1 noGuards Nothing) → ⊥
+epochOne-new-wrong h = apart (λ s. s .epoch) refl (h refl)
 
 -- ---- what a call does to its slot
 
@@ -260,56 +269,60 @@ dueLoad-no-wrong = apart (λ s. bit (isDue (s .due))) refl
 abbrev dropsEpoch : Slot → Slot
 dropsEpoch s = record { used = false; epoch = 0; guards = s .guards; due = s .due }
 
-dropsEpoch-wrong : Keeps1 freed dropsEpoch → ⊥
-dropsEpoch-wrong h = apart (λ s. s .epoch) refl (h (slotWith 4 noGuards Nothing))
+dropsEpoch-wrong : FreedPromise dropsEpoch → ⊥
+dropsEpoch-wrong h = apart (λ s. s .epoch) refl (h (slotWith 4 noGuards Nothing) refl)
 
 -- drop leaves the slot in use
 abbrev staysUsed : Slot → Slot
 staysUsed s = s
 
-staysUsed-wrong : Keeps1 freed staysUsed → ⊥
-staysUsed-wrong h = apart (λ s. bit (s .used)) refl (h newSlot)
+staysUsed-wrong : FreedPromise staysUsed → ⊥
+staysUsed-wrong h = apart (λ s. bit (s .used)) refl (h newSlot refl)
 
--- enter loads before it adds to the epoch
-abbrev loadsFirst : Control → Slot → Made
-loadsFirst c s = loaded c (s .due) s
+-- enter with no guard open adds to the epoch and loads at once, where the load is a step of its own
+abbrev loadsAtOnce : Control → Slot → Made
+loadsAtOnce c s =
+    elim (anyOpen (s .guards)) [ true ↦ entered c s | false ↦ loaded c Restore (withDue (bumped (s .epoch)) Nothing s) ]
 
-loadsFirst-wrong : Keeps2 entered loadsFirst → ⊥
+loadsAtOnce-wrong : EnteredPromise loadsAtOnce → ⊥
 unfolding rules
-loadsFirst-wrong h = apart (λ m. opens 0 (m .slot)) refl (h idle newSlot)
+loadsAtOnce-wrong h = apart (λ m. opens 0 (m .slot)) refl (h idle newSlot refl)
 
--- enter adds to the epoch with a guard open too
+-- enter with a guard open adds to the epoch too
 abbrev bumpsInside : Control → Slot → Made
-bumpsInside c s = record { answer = answer.Done; value = 0; slot = withDue (bumped (s .epoch)) Load s }
+bumpsInside c s =
+    let m = entered c s in
+    record { answer = m .answer; value = m .value; slot = withDue (bumped (s .epoch)) (m .slot .due) (m .slot) }
 
-bumpsInside-wrong : Keeps2 entered bumpsInside → ⊥
+bumpsInside-wrong : EnteredPromise bumpsInside → ⊥
 unfolding rules
-bumpsInside-wrong h = apart (λ m. m .slot .epoch) refl (h idle (slotWith 1 one Nothing))
+bumpsInside-wrong h = apart (λ m. m .slot .epoch) refl (h idle (slotWith 1 one Nothing) refl)
 
 -- go on after null forgets to put the epoch back
 abbrev forgetsEpoch : Control → Slot → Made
 forgetsEpoch c s =
-    elim (isLoad (s .due)) [ true ↦ loaded c Restore s | false ↦ record { answer = answer.None; value = 0; slot = withDue (s .epoch) Nothing s } ]
+    let m = wentOn c (s .due) s in
+    record { answer = m .answer; value = m .value; slot = withDue (s .epoch) (m .slot .due) (m .slot) }
 
-forgetsEpoch-wrong : Keeps2 (λ c s. wentOn c (s .due) s) forgetsEpoch → ⊥
+forgetsEpoch-wrong : WentOnPromise forgetsEpoch → ⊥
 unfolding rules
-forgetsEpoch-wrong h = apart (λ m. m .slot .epoch) refl (h gone (slotWith 1 noGuards Restore))
+forgetsEpoch-wrong h = apart (λ m. m .slot .epoch) refl (h gone (slotWith 1 noGuards Restore) refl)
 
--- null leaves nothing due
+-- a load that finds null leaves nothing due
 abbrev nullEnds : Control → Slot → Made
-nullEnds c s = loaded c Nothing s
+nullEnds c s = elim (isLoad (s .due)) [ true ↦ loaded c Nothing s | false ↦ wentOn c (s .due) s ]
 
-nullEnds-wrong : Keeps2 (λ c s. wentOn c (s .due) s) nullEnds → ⊥
+nullEnds-wrong : WentOnPromise nullEnds → ⊥
 unfolding rules
-nullEnds-wrong h = apart (λ m. bit (isDue (m .slot .due))) refl (h gone (slotWith 1 noGuards Load))
+nullEnds-wrong h = apart (λ m. bit (isDue (m .slot .due))) refl (h gone (slotWith 1 noGuards Load) refl)
 
 -- release adds to the epoch at every guard
 abbrev bumpsEach : ℕ → Slot → Slot
 bumpsEach j s = record { used = s .used; epoch = bumped (s .epoch); guards = putGuard j shut (s .guards); due = s .due }
 
-bumpsEach-wrong : Keeps2 released bumpsEach → ⊥
+bumpsEach-wrong : ReleasedPromise bumpsEach → ⊥
 unfolding rules
-bumpsEach-wrong h = apart (λ s. s .epoch) refl (h 0 (slotWith 1 two Nothing))
+bumpsEach-wrong h = apart (λ s. s .epoch) refl (h 0 (slotWith 1 two Nothing) refl)
 
 -- the last release stops at 2^64-1
 abbrev stopsAtEnd : ℕ → Slot → Slot
@@ -318,41 +331,41 @@ stopsAtEnd j s =
     elim (ltb (t .epoch) (s .epoch))
     [ true ↦ record { used = t .used; epoch = s .epoch; guards = t .guards; due = t .due } | false ↦ t ]
 
-stopsAtEnd-wrong : Keeps2 released stopsAtEnd → ⊥
+stopsAtEnd-wrong : ReleasedPromise stopsAtEnd → ⊥
 unfolding rules
-stopsAtEnd-wrong h = apart (λ s. s .epoch) refl (h 0 (slotWith (2 ^ 64 - 1) one Nothing))
+stopsAtEnd-wrong h = apart (λ s. s .epoch) refl (h 0 (slotWith (2 ^ 64 - 1) one Nothing) refl)
 
 -- the other copy
 abbrev otherCopy : List Guard → ℕ → List ℕ → List ℕ → List ℕ
 otherCopy gs j l r = copyOf (not (standsRight gs j)) l r
 
-otherCopy-wrong : Keeps4 guardedCopy otherCopy → ⊥
-otherCopy-wrong h = apart (word 0) refl (h one 0 (1 ∷ []) (2 ∷ []))
+otherCopy-wrong : GuardedCopyPromise otherCopy → ⊥
+otherCopy-wrong h = apart (word 3) refl (h one 0 left7 right7 refl)
 
 -- always the left copy
 abbrev leftCopy : List Guard → ℕ → List ℕ → List ℕ → List ℕ
 leftCopy gs j l r = l
 
-leftCopy-wrong : Keeps4 guardedCopy leftCopy → ⊥
-leftCopy-wrong h = apart (word 0) refl (h right 0 (1 ∷ []) (2 ∷ []))
+leftCopy-wrong : GuardedCopyPromise leftCopy → ⊥
+leftCopy-wrong h = apart (word 3) refl (h right 0 left7 right7 refl)
 
 -- ---- signs and verdicts
 
--- a step due does not speak against a call
+-- a step that is due is not seen
 abbrev noMistime : Control → Bool → Slot → Handle → Signs
 noMistime c own s h = handleSigns c own (withDue (s .epoch) Nothing s) h
 
-noMistime-wrong : Keeps4 handleSigns noMistime → ⊥
+noMistime-wrong : SignsPromise noMistime → ⊥
 unfolding rules
-noMistime-wrong h = apart (λ s. bit (s .«not_now»)) refl (h idle false (slotWith 1 noGuards Load) Enter)
+noMistime-wrong h = apart (λ s. bit (s .«not_now»)) refl (h idle false (slotWith 1 noGuards Load) Enter refl)
 
 -- a free slot has a handle
 abbrev freeServes : Control → Bool → Slot → Handle → Signs
 freeServes c own s h = handleSigns c own (slotWith (s .epoch) (s .guards) (s .due)) h
 
-freeServes-wrong : Keeps4 handleSigns freeServes → ⊥
+freeServes-wrong : SignsPromise freeServes → ⊥
 unfolding rules
-freeServes-wrong h = apart (λ s. bit (s .«no_slot»)) refl (h idle false noSlot Enter)
+freeServes-wrong h = apart (λ s. bit (s .«no_slot»)) refl (h idle false noSlot Enter refl)
 
 abbrev signsOf : Bool → Bool → Signs
 signsOf a b =
@@ -373,38 +386,42 @@ signsOf a b =
 abbrev larger : Signs → Verdict
 larger s = elim (s .«not_now») [ true ↦ Refused answer.NotNow | false ↦ smallest s ]
 
-larger-wrong : Keeps1 smallest larger → ⊥
+larger-wrong : SmallestPromise larger → ⊥
 unfolding rules
-larger-wrong h = apart verdict refl (h (signsOf true true))
+larger-wrong h = apart verdict refl (h (signsOf true true) refl)
 
-admitsAll-wrong : Keeps1 smallest (λ s. Admitted) → ⊥
+-- no sign matters
+admitsAll-wrong : SmallestPromise (λ s. Admitted) → ⊥
 unfolding rules
-admitsAll-wrong h = apart verdict refl (h (signsOf true false))
+admitsAll-wrong h = apart verdict refl (h (signsOf true false) refl)
 
-either-both-wrong : Keeps2 _||_ _&&_ → ⊥
-either-both-wrong h = apart bit refl (h true false)
+-- either is both, or the first alone
+either-both-wrong : EitherPromise _&&_ → ⊥
+either-both-wrong h = apart bit refl (h true false refl)
 
-either-first-wrong : Keeps2 _||_ (λ a b. a) → ⊥
-either-first-wrong h = apart bit refl (h false true)
+either-first-wrong : EitherPromise (λ a b. a) → ⊥
+either-first-wrong h = apart bit refl (h false true refl)
 
-same-either-wrong : Keeps2 same _||_ → ⊥
-same-either-wrong h = apart bit refl (h true false)
+-- the same is either, or both
+same-either-wrong : SamePromise _||_ → ⊥
+same-either-wrong h = apart bit refl (h true false refl)
 
-same-both-wrong : Keeps2 same _&&_ → ⊥
-same-both-wrong h = apart bit refl (h false false)
+same-both-wrong : SamePromise _&&_ → ⊥
+same-both-wrong h = apart bit refl (h false false refl)
 
--- under way is not locked, and gone is not all that is null
-locks-underway-wrong : Keeps1 locks underway → ⊥
-locks-underway-wrong h = apart bit refl (h Phase.Begin)
+-- all that is under way holds the lock; nothing does
+locks-underway-wrong : LocksPromise underway → ⊥
+locks-underway-wrong h = apart bit refl (h Phase.Begin refl)
 
-locks-never-wrong : Keeps1 locks (λ p. false) → ⊥
-locks-never-wrong h = apart bit refl (h (Poll 0))
+locks-never-wrong : LocksPromise (λ p. false) → ⊥
+locks-never-wrong h = apart bit refl (h (Poll 0) refl)
 
-nulls-gone-wrong : Keeps1 nulls isGone → ⊥
-nulls-gone-wrong h = apart bit refl (h Phase.Finish)
+-- the pointer is null after take alone; never
+nulls-gone-wrong : NullsPromise isGone → ⊥
+nulls-gone-wrong h = apart bit refl (h Phase.Finish refl)
 
-nulls-never-wrong : Keeps1 nulls (λ p. false) → ⊥
-nulls-never-wrong h = apart bit refl (h Gone)
+nulls-never-wrong : NullsPromise (λ p. false) → ⊥
+nulls-never-wrong h = apart bit refl (h Gone refl)
 
 -- ---- the judgement
 
@@ -412,38 +429,37 @@ nulls-never-wrong h = apart bit refl (h Gone)
 abbrev copiesSized : List ℕ → List ℕ → List ℕ → Bool
 copiesSized l r g = eqb (length l) words && eqb (length r) words
 
-copiesSized-wrong : Keeps3 sized copiesSized → ⊥
-copiesSized-wrong h = apart bit refl (h none none [])
+copiesSized-wrong : SizedPromise copiesSized → ⊥
+copiesSized-wrong h = apart bit refl (h none none noWords refl)
 
 -- the lengths may stand in another order
 abbrev sumSized : List ℕ → List ℕ → List ℕ → Bool
 sumSized l r g = eqb (length l + length r + length g) (words + words + logWords)
 
-sumSized-wrong : Keeps3 sized sumSized → ⊥
-sumSized-wrong h = apart bit refl (h noLog none none)
+sumSized-wrong : SizedPromise sumSized → ⊥
+sumSized-wrong h = apart bit refl (h noLog none none refl)
 
--- the glance has no time for the log
-judged-glance-wrong : Keeps4 glanced judged → ⊥
+-- a glance that walks the log
+judged-glance-wrong : GlancePromise judged → ⊥
 unfolding rules
-judged-glance-wrong h = apart verdict refl (h unlawful none none noLog)
+judged-glance-wrong h = apart verdict refl (h unlawful none none noLog refl)
 
 -- a judgement that skips the log
-glanced-judge-wrong : Keeps4 judged glanced → ⊥
+glanced-judge-wrong : JudgePromise glanced → ⊥
 unfolding rules
-glanced-judge-wrong h = apart verdict refl (h unlawful none none noLog)
+glanced-judge-wrong h = apart verdict refl (h unlawful none none noLog refl)
 
 -- broken is found before the length
-abbrev brokenFirst : Control → List ℕ → List ℕ → List ℕ → Verdict
-brokenFirst c l r g = elim (wholeControl c) [ true ↦ glanced c l r g | false ↦ Refused answer.Broken ]
+abbrev brokenFirst : (Control → List ℕ → List ℕ → List ℕ → Verdict) → Control → List ℕ → List ℕ → List ℕ → Verdict
+brokenFirst rule c l r g = elim (wholeControl c) [ true ↦ rule c l r g | false ↦ Refused answer.Broken ]
 
-brokenFirst-glance-wrong : Keeps4 glanced brokenFirst → ⊥
+brokenFirst-glance-wrong : GlancePromise (brokenFirst glanced) → ⊥
 unfolding rules
-brokenFirst-glance-wrong h =
-    apart verdict refl (h (record { right = false; null = false; lock = true; first = true; second = true; phase = Idle; job = Publish; length = 0; swapped = 0 }) none none [])
+brokenFirst-glance-wrong h = apart verdict refl (h broken none none noWords refl)
 
-brokenFirst-judge-wrong : Keeps4 judged brokenFirst → ⊥
+brokenFirst-judge-wrong : JudgePromise (brokenFirst judged) → ⊥
 unfolding rules
-brokenFirst-judge-wrong h = apart verdict refl (h unlawful none none noLog)
+brokenFirst-judge-wrong h = apart verdict refl (h broken none none noWords refl)
 
 -- ---- a call on a handle, on its slot
 
@@ -451,17 +467,17 @@ brokenFirst-judge-wrong h = apart verdict refl (h unlawful none none noLog)
 abbrev refusesMade : Control → Bool → Slot → Handle → List ℕ → List ℕ → Made
 refusesMade c own s h l r = record { answer = answer.NotNow; value = 0; slot = s }
 
-refusesMade-wrong : Keeps6 handleOn refusesMade → ⊥
+refusesMade-wrong : HandlePromise refusesMade → ⊥
 unfolding rules
-refusesMade-wrong h = apart (λ m. number (m .answer)) refl (h idle false newSlot Enter none none)
+refusesMade-wrong h = apart (λ m. number (m .answer)) refl (h idle false newSlot Enter none none refl)
 
 -- every call is done, with nothing changed
 abbrev idlesMade : Control → Bool → Slot → Handle → List ℕ → List ℕ → Made
 idlesMade c own s h l r = record { answer = answer.Done; value = 0; slot = s }
 
-idlesMade-wrong : Keeps6 handleOn idlesMade → ⊥
+idlesMade-wrong : HandlePromise idlesMade → ⊥
 unfolding rules
-idlesMade-wrong h = apart (λ m. m .slot .epoch) refl (h idle false newSlot Enter none none)
+idlesMade-wrong h = apart (λ m. m .slot .epoch) refl (h idle false newSlot Enter none none refl)
 
 -- ---- calls on the machine
 
@@ -483,156 +499,176 @@ answerOf q = number (q .answer)
 abbrev valueOf : Reply → ℕ
 valueOf q = q .value
 
+-- of slot 1: its epoch, and whether guard 0 is open
 abbrev epochOf : Reply → ℕ
 epochOf q = slotAt (q .state) 1 .epoch
+
+abbrev openOf : Reply → ℕ
+openOf q = opens 0 (slotAt (q .state) 1)
 
 -- every call is refused
 abbrev refusesAll : ℕ → Handle → List ℕ → List ℕ → List ℕ → State → Reply
 refusesAll i h l r g st = refusal answer.NotNow st
 
-refusesAll-wrong : Keeps6 handleRule refusesAll → ⊥
+refusesAll-wrong : OnHandlePromise refusesAll → ⊥
 unfolding rules
-refusesAll-wrong h = apart answerOf refl (h 1 Enter none none noLog (machine newSlot))
+refusesAll-wrong h = apart answerOf refl (h 1 Enter none none noLog (machine newSlot) refl)
 
--- the log is not judged
+-- the operations in the log are not judged, and all else is
 abbrev skipsLog : ℕ → Handle → List ℕ → List ℕ → List ℕ → State → Reply
-skipsLog i h l r g st = handleRule i h l r (replicate 256 1 ++ (replicate 256 1 ++ replicate 256 1)) st
+skipsLog i h l r g st = elim (glanced (st .control) l r g) [ Admitted ↦ handleReply i h l r st | Refused a ↦ refusal a st ]
 
-skipsLog-wrong : Keeps6 handleRule skipsLog → ⊥
+skipsLog-wrong : OnHandlePromise skipsLog → ⊥
 unfolding rules
-skipsLog-wrong h = apart answerOf refl (h 1 Enter none none noLog (controlled unlawful (machine newSlot)))
+skipsLog-wrong h = apart answerOf refl (h 1 Enter none none noLog (controlled unlawful (machine newSlot)) refl)
 
--- every call is done, with nothing changed
+-- every call that is not refused is done, with nothing changed
 abbrev doesNothing : ℕ → Handle → List ℕ → List ℕ → List ℕ → State → Reply
 doesNothing i h = calling (idling (λ c. 0)) h i
 
-doesNothing-wrong : Keeps6 handleRule doesNothing → ⊥
+doesNothing-wrong : OnHandlePromise doesNothing → ⊥
 unfolding rules
-doesNothing-wrong h = apart epochOf refl (h 1 Enter none none noLog (machine newSlot))
+doesNothing-wrong h = apart epochOf refl (h 1 Enter none none noLog (machine newSlot) refl)
 
 -- drop
 
 abbrev dropping : (Slot → Slot) → ℕ → List ℕ → List ℕ → List ℕ → State → Reply
 dropping f = calling (λ c s l r. record { answer = answer.Done; value = 0; slot = f s }) Drop
 
-drop-clears-wrong : Keeps5 (λ i. handleRule i Drop) (dropping dropsEpoch) → ⊥
+drop-clears-wrong : DropPromise (dropping dropsEpoch) → ⊥
 unfolding rules
-drop-clears-wrong h = apart epochOf refl (h 1 none none noLog (machine (slotWith 4 noGuards Nothing)))
+drop-clears-wrong h = apart epochOf refl (h 1 none none noLog (machine (slotWith 4 noGuards Nothing)) refl)
 
-drop-stays-wrong : Keeps5 (λ i. handleRule i Drop) (dropping staysUsed) → ⊥
+drop-stays-wrong : DropPromise (dropping staysUsed) → ⊥
 unfolding rules
-drop-stays-wrong h = apart (λ q. bit (slotAt (q .state) 1 .used)) refl (h 1 none none noLog (machine newSlot))
+drop-stays-wrong h = apart (λ q. bit (slotAt (q .state) 1 .used)) refl (h 1 none none noLog (machine newSlot) refl)
 
 -- enter
 
-enter-loads-wrong : Keeps5 (λ i. handleRule i Enter) (calling (λ c s l r. loadsFirst c s) Enter) → ⊥
+enter-loads-wrong : EnterPromise (calling (λ c s l r. loadsAtOnce c s) Enter) → ⊥
 unfolding rules
-enter-loads-wrong h = apart epochOf refl (h 1 none none noLog (machine newSlot))
+enter-loads-wrong h = apart openOf refl (h 1 none none noLog (machine newSlot) refl)
 
-enter-bumps-wrong : Keeps5 (λ i. handleRule i Enter) (calling (λ c s l r. bumpsInside c s) Enter) → ⊥
+enter-bumps-wrong : EnterPromise (calling (λ c s l r. bumpsInside c s) Enter) → ⊥
 unfolding rules
-enter-bumps-wrong h = apart epochOf refl (h 1 none none noLog (machine (slotWith 1 one Nothing)))
+enter-bumps-wrong h = apart epochOf refl (h 1 none none noLog (machine (slotWith 1 one Nothing)) refl)
 
 -- go on
 
-goOn-forgets-wrong : Keeps5 (λ i. handleRule i GoOn) (calling (λ c s l r. forgetsEpoch c s) GoOn) → ⊥
+goOn-forgets-wrong : GoOnPromise (calling (λ c s l r. forgetsEpoch c s) GoOn) → ⊥
 unfolding rules
-goOn-forgets-wrong h = apart epochOf refl (h 1 none none noLog (controlled gone (machine (slotWith 1 noGuards Restore))))
+goOn-forgets-wrong h = apart epochOf refl (h 1 none none noLog (controlled gone (machine (slotWith 1 noGuards Restore))) refl)
 
-goOn-idles-wrong : Keeps5 (λ i. handleRule i GoOn) (calling (idling (λ c. 0)) GoOn) → ⊥
+-- the load is done, and opens no guard
+goOn-idles-wrong : GoOnPromise (calling (idling (λ c. 0)) GoOn) → ⊥
 unfolding rules
-goOn-idles-wrong h = apart (λ q. opens 0 (slotAt (q .state) 1)) refl (h 1 none none noLog (machine (slotWith 1 noGuards Load)))
+goOn-idles-wrong h = apart openOf refl (h 1 none none noLog (machine (slotWith 1 noGuards Load)) refl)
 
 -- release
 
 abbrev releasing : (ℕ → Slot → Slot) → ℕ → ℕ → List ℕ → List ℕ → List ℕ → State → Reply
 releasing f i j = calling (λ c s l r. record { answer = answer.Done; value = 0; slot = f j s }) (Release j) i
 
-release-bumps-wrong : Keeps6 (λ i j. handleRule i (Release j)) (releasing bumpsEach) → ⊥
+release-bumps-wrong : ReleasePromise (releasing bumpsEach) → ⊥
 unfolding rules
-release-bumps-wrong h = apart epochOf refl (h 1 0 none none noLog (machine (slotWith 1 two Nothing)))
+release-bumps-wrong h = apart epochOf refl (h 1 0 none none noLog (machine (slotWith 1 two Nothing)) refl)
 
-release-stops-wrong : Keeps6 (λ i j. handleRule i (Release j)) (releasing stopsAtEnd) → ⊥
+release-stops-wrong : ReleasePromise (releasing stopsAtEnd) → ⊥
 unfolding rules
-release-stops-wrong h = apart epochOf refl (h 1 0 none none noLog (machine (slotWith (2 ^ 64 - 1) one Nothing)))
+release-stops-wrong h = apart epochOf refl (h 1 0 none none noLog (machine (slotWith (2 ^ 64 - 1) one Nothing)) refl)
 
--- look up
+-- look up: in the other copy, and in none
 
-lookUp-other-wrong : Keeps7 (λ i j key. handleRule i (LookUp j key)) (λ i j key l r. handleRule i (LookUp j key) r l) → ⊥
+lookUp-other-wrong : LookUpPromise (λ i j key l r. handleRule i (LookUp j key) r l) → ⊥
 unfolding rules
-lookUp-other-wrong h = apart valueOf refl (h 1 0 7 seven none noLog (machine (slotWith 1 one Nothing)))
+lookUp-other-wrong h = apart valueOf refl (h 1 0 7 left7 right7 noLog (machine (slotWith 1 one Nothing)) refl)
 
-lookUp-none-wrong : Keeps7 (λ i j key. handleRule i (LookUp j key)) (λ i j key. calling (idling (λ c. 0)) (LookUp j key) i) → ⊥
+lookUp-none-wrong : LookUpPromise (λ i j key. calling (idling (λ c. 0)) (LookUp j key) i) → ⊥
 unfolding rules
-lookUp-none-wrong h = apart valueOf refl (h 1 0 7 seven none noLog (machine (slotWith 1 one Nothing)))
+lookUp-none-wrong h = apart valueOf refl (h 1 0 7 left7 right7 noLog (machine (slotWith 1 one Nothing)) refl)
 
--- was dropped
+-- was dropped: never
 
-wasDropped-never-wrong : Keeps5 (λ i. handleRule i WasDropped) (calling (idling (λ c. 0)) WasDropped) → ⊥
+wasDropped-never-wrong : WasDroppedPromise (calling (idling (λ c. 0)) WasDropped) → ⊥
 unfolding rules
-wasDropped-never-wrong h = apart valueOf refl (h 1 none none noLog (controlled gone (machine newSlot)))
+wasDropped-never-wrong h = apart valueOf refl (h 1 none none noLog (controlled gone (machine newSlot)) refl)
 
 -- dropped is what is gone, and not what is null
-wasDropped-late-wrong : Keeps5 (λ i. handleRule i WasDropped) (calling (idling (λ c. bit (isGone (c .phase)))) WasDropped) → ⊥
+wasDropped-late-wrong : WasDroppedPromise (calling (idling (λ c. bit (isGone (c .phase)))) WasDropped) → ⊥
 unfolding rules
-wasDropped-late-wrong h =
-    apart valueOf refl (h 1 none none noLog
-    (controlled (record { right = false; null = true; lock = true; first = false; second = false; phase = Phase.Finish; job = Publish; length = 0; swapped = 0 }) (machine newSlot)))
+wasDropped-late-wrong h = apart valueOf refl (h 1 none none noLog (controlled finishing (machine newSlot)) refl)
 
 -- ---- create
 
-abbrev creating : (State → State) → List ℕ → List ℕ → List ℕ → State → Reply
-creating f l r g st =
+-- the snapshot of the slot that is handed out is cleared
+abbrev clearsSnapshot : List ℕ → List ℕ → List ℕ → State → Reply
+clearsSnapshot l r g st =
     let q = createRule l r g st in
-    elim (eqb (number (q .answer)) 0) [ true ↦ record { answer = q .answer; value = q .value; state = f (q .state) } | false ↦ q ]
+    elim (eqb (number (q .answer)) 0) [
+      | true ↦
+          record {
+            answer = q .answer;
+            value = q .value;
+            state = record { control = q .state .control; slots = q .state .slots; snapshots = set (q .state .snapshots) (q .value) 0 };
+          }
+      | false ↦ q
+    ]
 
--- the snapshot is cleared
-create-clears-wrong :
-    Keeps4 createRule (creating (λ st. record { control = st .control; slots = st .slots; snapshots = set (st .snapshots) 1 0 })) → ⊥
+create-clears-wrong : CreatePromise clearsSnapshot → ⊥
 unfolding rules
 create-clears-wrong h =
     apart (λ q. getD (q .state .snapshots) 1 0) refl
-    (h none none noLog (record { control = idle; slots = fresh .slots; snapshots = replicate 16 5 }))
+    (h none none noLog (record { control = idle; slots = fresh .slots; snapshots = replicate 16 5 }) refl)
 
 -- the lock does not matter
 abbrev createsLocked : List ℕ → List ℕ → List ℕ → State → Reply
 createsLocked l r g st =
     let i = firstFree (st .slots) in
-    elim (judged (st .control) l r g)
-    [ Admitted ↦ record { answer = answer.Done; value = i; state = withSlot i newSlot st } | Refused a ↦ refusal a st ]
+    elim (judged (st .control) l r g) [
+      | Admitted ↦
+          elim (ltb i slotCount)
+          [ true ↦ record { answer = answer.Done; value = i; state = withSlot i newSlot st } | false ↦ refusal answer.SlotsFull st ]
+      | Refused a ↦ refusal a st
+    ]
 
-createsLocked-wrong : Keeps4 createRule createsLocked → ⊥
+createsLocked-wrong : CreatePromise createsLocked → ⊥
 unfolding rules
-createsLocked-wrong h = apart answerOf refl (h none none noLog (controlled polling fresh))
+createsLocked-wrong h = apart answerOf refl (h none none noLog (controlled polling fresh) refl)
 
 -- no slot is handed out
-createNone-wrong : Keeps4 createRule (λ l r g st. refusal answer.SlotsFull st) → ⊥
+createNone-wrong : CreatePromise (λ l r g st. refusal answer.SlotsFull st) → ⊥
 unfolding rules
-createNone-wrong h = apart answerOf refl (h none none noLog fresh)
+createNone-wrong h = apart answerOf refl (h none none noLog fresh refl)
 
 -- ---- a guard's view
 
-view-other-wrong : Keeps6 viewRule (λ i j l r. viewRule i j r l) → ⊥
+-- the other copy is shown
+view-other-wrong : ViewPromise (λ i j l r. viewRule i j r l) → ⊥
 unfolding rules
-view-other-wrong h = apart length refl (h 1 0 seven none noLog (machine (slotWith 1 one Nothing)))
+view-other-wrong h = apart (word 3) refl (h 1 0 left7 right7 noLog (machine (slotWith 1 one Nothing)) refl)
 
 -- the empty table is shown always
-view-empty-wrong : Keeps6 viewRule (λ i j l r g st. 0 ∷ 0 ∷ []) → ⊥
+view-empty-wrong : ViewPromise (λ i j l r g st. 0 ∷ 0 ∷ []) → ⊥
 unfolding rules
-view-empty-wrong h = apart length refl (h 1 0 seven none noLog (machine (slotWith 1 one Nothing)))
+view-empty-wrong h = apart length refl (h 1 0 left7 right7 noLog (machine (slotWith 1 one Nothing)) refl)
 
 -- a refused call shows the left copy
-view-unguarded-wrong : Keeps6 viewRule (λ i j l r g st. usedRule l) → ⊥
-unfolding rules
-view-unguarded-wrong h = apart length refl (h 1 0 seven none noLog (machine newSlot))
+abbrev showsRefused : ℕ → ℕ → List ℕ → List ℕ → List ℕ → State → List ℕ
+showsRefused i j l r g st = let v = viewRule i j l r g st in elim (eqb (length v) 0) [ true ↦ usedRule l | false ↦ v ]
 
-pair-other-wrong : Keeps7 pairRule (λ i j key l r. pairRule i j key r l) → ⊥
+view-refused-wrong : ViewPromise showsRefused → ⊥
 unfolding rules
-pair-other-wrong h = apart length refl (h 1 0 7 seven none noLog (machine (slotWith 1 one Nothing)))
+view-refused-wrong h = apart length refl (h 1 0 left7 right7 noLog (machine newSlot) refl)
 
-pair-none-wrong : Keeps7 pairRule (λ i j key l r g st. []) → ⊥
+-- the pair is the other copy's
+pair-other-wrong : PairPromise (λ i j key l r. pairRule i j key r l) → ⊥
 unfolding rules
-pair-none-wrong h = apart length refl (h 1 0 7 seven none noLog (machine (slotWith 1 one Nothing)))
+pair-other-wrong h = apart (word 1) refl (h 1 0 7 left7 right7 noLog (machine (slotWith 1 one Nothing)) refl)
+
+-- no key is ever found
+pair-none-wrong : PairPromise (λ i j key l r g st. []) → ⊥
+unfolding rules
+pair-none-wrong h = apart length refl (h 1 0 7 left7 right7 noLog (machine (slotWith 1 one Nothing)) refl)
 
 -- ---- start
 
@@ -640,14 +676,14 @@ pair-none-wrong h = apart length refl (h 1 0 7 seven none noLog (machine (slotWi
 abbrev zeroesAlways : List ℕ → List ℕ → List ℕ → Lent Reply
 zeroesAlways l r g = lent (startRule l r g .made) (zeros l) (zeros r) (zeros g)
 
-zeroesAlways-wrong : Keeps3 startRule zeroesAlways → ⊥
+zeroesAlways-wrong : StartPromise zeroesAlways → ⊥
 unfolding rules
-zeroesAlways-wrong h = apart (λ q. word 0 (q .left)) refl (h (5 ∷ []) none noLog)
+zeroesAlways-wrong h = apart (λ q. word 2 (q .left)) refl (h left7 right7 noWords refl)
 
 -- nothing is zeroed
 abbrev zeroesNever : List ℕ → List ℕ → List ℕ → Lent Reply
 zeroesNever l r g = lent (startRule l r g .made) l r g
 
-zeroesNever-wrong : Keeps3 startRule zeroesNever → ⊥
+zeroesNever-wrong : StartPromise zeroesNever → ⊥
 unfolding rules
-zeroesNever-wrong h = apart (λ q. word 2 (q .left)) refl (h seven none noLog)
+zeroesNever-wrong h = apart (λ q. word 2 (q .left)) refl (h left7 right7 noLog refl)

@@ -1,0 +1,49 @@
+-- What refuses a schedule file, said of its bytes, and what a refusal leaves as it was. The player is a parameter.
+use Prim.Native.Nat.{ℕ, _+_, _*_, _≤_, _<_}
+use mathlib.Core.Path.{_≡_}
+use mathlib.Core.List.{List, [], _∷_}
+use lib.ListN.{length, getD, take, drop}
+use Rattle.play.specs.Player.{Output}
+
+-- a file, and the output as it was, to what comes back
+abbrev pub Player : Type 0
+Player = List ℕ → List ℕ → Output
+
+-- what speaks against a file, by the number that is given for it
+pub data Applies (s out : List ℕ) : ℕ → Type 0 where
+  -- shorter than 5 bytes, or without the mark LRT
+  short : length s < 5 → Applies s out 21
+  unmarked : (take 3 s ≡ 76 ∷ 82 ∷ 84 ∷ [] → ⊥) → Applies s out 21
+  -- a version, in two bytes, that is not 1
+  version : (getD s 3 0 + 256 * getD s 4 0 ≡ 1 → ⊥) → Applies s out 22
+  -- no whole number of records of 20 bytes
+  torn : ((n : ℕ) → length s ≡ 5 + 20 * n → ⊥) → Applies s out 23
+  -- a whole record whose first byte, the call, is not 1 to 14
+  unknown :
+      (i : ℕ) → 5 + 20 * i + 20 ≤ length s → ((1 ≤ getD s (5 + 20 * i) 0) × (getD s (5 + 20 * i) 0 ≤ 14) → ⊥) →
+      Applies s out 24
+  -- an output of less than 9 bytes a record
+  crowded : (n : ℕ) → length s ≡ 5 + 20 * n → length out < 9 * n → Applies s out 25
+
+-- the smallest number that applies, with 0 bytes reported and no byte written
+pub record Refused (s out : List ℕ) (o : Output) : Type 0 where
+  pub among : (21 ≤ o .result .answer) × (o .result .answer ≤ 25)
+  pub applies : Applies s out (o .result .answer)
+  pub smallest : (a : ℕ) → Applies s out a → o .result .answer ≤ a
+  pub reported : o .result .written ≡ 0
+  pub untouched : o .bytes ≡ out
+
+-- none applies: 9 bytes a record, and behind them the output as it was
+pub record Done (s out : List ℕ) (o : Output) : Type 0 where
+  pub flawless : (a : ℕ) → Applies s out a → ⊥
+  pub records : ℕ
+  pub whole : length s ≡ 5 + 20 * records
+  pub reported : o .result .written ≡ 9 * records
+  pub behind : drop (9 * records) (o .bytes) ≡ drop (9 * records) out
+  pub as-long : length (o .bytes) ≡ length out
+
+abbrev pub Outcome : List ℕ → List ℕ → Output → Type 0
+Outcome s out o = (o .result .answer ≡ 0 → Done s out o) × ((o .result .answer ≡ 0 → ⊥) → Refused s out o)
+
+abbrev pub Refusals : Player → Type 0
+Refusals play = (s out : List ℕ) → Outcome s out (play s out)
