@@ -259,7 +259,7 @@ PairPromise f =
 
 -- ---- the rules keep them: no promise is false of every program
 
-kept :
+pub kept :
     RowPromise row × EntryPromise entry × ColumnPromise column × FirstGuardPromise firstGuard × IsOpenPromise isOpen
     × AnyOpenPromise anyOpen × AllOpenPromise allOpen × IsDuePromise isDue × IsLoadPromise isLoad × NoSlotPromise noSlot
     × NewSlotPromise newSlot × FreedPromise freed × EnteredPromise entered × WentOnPromise (λ c s. wentOn c (s .due) s)
