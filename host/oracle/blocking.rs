@@ -1,20 +1,23 @@
-//! Where the crate waits: two threads, each case beside the same calls in our player.
+//! Where the crate waits, and what is seen meanwhile: two threads, each case beside the same calls in our player.
 //!
 //! "Waits" is seen by a time limit: the crate's call has not come back after a while, and comes back once the guard is
 //! released. The limits are far apart, so that a busy machine does not decide the test.
 
 use crate::world::{Change, Counts};
+use left_right::{ReadHandle, WriteHandle};
 use lrt::Player;
 use reference::Record;
 use std::sync::mpsc::{channel, Receiver, RecvTimeoutError};
 use std::thread;
-use std::time::Duration;
+use std::time::{Duration, Instant};
 
 const WAITS: Duration = Duration::from_millis(300);
 const COMES: Duration = Duration::from_secs(20);
 
+type Writer = WriteHandle<Counts, Change>;
+
 /// Makes a call on a thread of its own, and gives word when it is back.
-fn apart<T: Send + 'static>(call: impl FnOnce() -> T + Send + 'static) -> Receiver<T> {
+pub fn apart<T: Send + 'static>(call: impl FnOnce() -> T + Send + 'static) -> Receiver<T> {
     let (send, back) = channel();
     thread::spawn(move || {
         let _ = send.send(call());
@@ -22,16 +25,42 @@ fn apart<T: Send + 'static>(call: impl FnOnce() -> T + Send + 'static) -> Receiv
     back
 }
 
+fn publishes(mut writer: Writer) -> Receiver<Writer> {
+    apart(move || {
+        writer.publish();
+        writer
+    })
+}
+
 fn waits<T>(back: &Receiver<T>, what: &str) -> Result<(), String> {
     match back.recv_timeout(WAITS) {
         Err(RecvTimeoutError::Timeout) => Ok(()),
         Err(RecvTimeoutError::Disconnected) => Err(format!("{what} panicked")),
-        Ok(_) => Err(format!("{what} did not wait")),
+        Ok(back) => {
+            // A writer's end would wait for the guards of this thread.
+            std::mem::forget(back);
+            Err(format!("{what} did not wait"))
+        }
     }
 }
 
 fn comes<T>(back: &Receiver<T>, what: &str) -> Result<T, String> {
     back.recv_timeout(COMES).map_err(|_| format!("{what} did not come back"))
+}
+
+fn becomes(so: impl Fn() -> bool, what: &str) -> Result<(), String> {
+    let start = Instant::now();
+    while !so() {
+        if start.elapsed() > COMES {
+            return Err(format!("{what} did not come to be"));
+        }
+        thread::yield_now();
+    }
+    Ok(())
+}
+
+fn seven(reader: &ReadHandle<Counts>) -> Option<u64> {
+    reader.enter()?.pairs.get(&7).copied()
 }
 
 /// A record of ours as (call, slot, kind, key, amount), and the answer and value that it must have.
@@ -59,6 +88,7 @@ fn ours(player: Player, calls: &[(Call, Wanted)]) -> Result<(), String> {
 }
 
 const CREATE: Call = (1, 0, 0, 0, 0);
+const DROP: Call = (2, 1, 0, 0, 0);
 const ENTER: Call = (3, 1, 0, 0, 0);
 const GO_ON: Call = (4, 1, 0, 0, 0);
 const RELEASE: Call = (5, 1, 0, 0, 0);
@@ -69,6 +99,11 @@ const PUBLISH: Call = (9, 0, 0, 0, 0);
 const TAKE: Call = (12, 0, 0, 0, 0);
 const RUN: Call = (14, 0, 0, 0, 0);
 
+/// The same call by another slot.
+fn of(slot: u8, (call, _, kind, key, amount): Call) -> Call {
+    (call, slot, kind, key, amount)
+}
+
 /// A guard lets one publish through and the next one waits for it. While that one waits it keeps the lock, so that
 /// making a handle waits too.
 fn publish(player: Player) -> Result<(), String> {
@@ -78,19 +113,13 @@ fn publish(player: Player) -> Result<(), String> {
     let guard = reader.enter().ok_or("no guard")?;
     writer.append(Change::Add(7, 3));
 
-    let first = apart(move || {
-        writer.publish();
-        writer
-    });
-    let mut writer = comes(&first, "the publish after the guard")?;
+    let first = publishes(writer);
+    let writer = comes(&first, "the publish after the guard")?;
     if !guard.pairs.is_empty() {
         return Err("the guard's table changed".to_string());
     }
 
-    let second = apart(move || {
-        writer.publish();
-        writer
-    });
+    let second = publishes(writer);
     waits(&second, "the second publish after the guard")?;
     let handle = apart(move || factory.handle());
     waits(&handle, "a new handle while a publish waits")?;
@@ -102,8 +131,8 @@ fn publish(player: Player) -> Result<(), String> {
     let writer = comes(&second, "the publish, after the release")?;
     let handle = comes(&handle, "the new handle, after the release")?;
     for reader in [&reader, &handle] {
-        let count = reader.enter().map(|guard| guard.pairs.get(&7).copied());
-        if count != Some(Some(3)) {
+        let count = seven(reader);
+        if count != Some(3) {
             return Err(format!("after the publish the count is {count:?}"));
         }
     }
@@ -185,10 +214,7 @@ fn later_handle(player: Player) -> Result<(), String> {
     drop(reader);
     let reader = factory.handle();
     let guard = reader.enter().ok_or("no guard")?;
-    let publish = apart(move || {
-        writer.publish();
-        writer
-    });
+    let publish = publishes(writer);
     waits(&publish, "a publish under a later handle's guard")?;
     drop(guard);
     comes(&publish, "the publish, after the release")?;
@@ -202,7 +228,7 @@ fn later_handle(player: Player) -> Result<(), String> {
             (PUBLISH, (0, 0)),
             (RUN, (0, 17)),
             (RELEASE, (0, 0)),
-            ((2, 1, 0, 0, 0), (0, 0)),
+            (DROP, (0, 0)),
             (CREATE, (0, 1)),
             (ENTER, (0, 0)),
             (GO_ON, (0, 0)),
@@ -214,9 +240,102 @@ fn later_handle(player: Player) -> Result<(), String> {
     )
 }
 
+/// Two handles were inside at the last swap. One still is, and a publish waits for it; the other's slot has a later
+/// handle, which enters meanwhile. Behind the one waited for, it is waited for too; before it, it was passed, and is not.
+fn meanwhile(player: Player, behind: bool) -> Result<(), String> {
+    let (mut writer, reader) = left_right::new::<Counts, Change>();
+    let factory = reader.factory();
+    let other = factory.handle();
+    let (stays, goes) = if behind { (reader, other) } else { (other, reader) };
+    let staying = stays.enter().ok_or("no guard")?;
+    let going = goes.enter().ok_or("no guard")?;
+    writer.publish();
+    drop(going);
+    drop(goes);
+    let later = factory.handle();
+    let publish = publishes(writer);
+    // Debug tells of a lock that is taken: the publish is under way.
+    becomes(|| format!("{stays:?}").contains("<locked>"), "a publish that has the lock")?;
+    waits(&publish, "a publish under a guard")?;
+    let guard = later.enter().ok_or("no guard")?;
+    drop(staying);
+    let writer = if behind {
+        waits(&publish, "the publish, with a later handle inside behind that guard,")?;
+        drop(guard);
+        comes(&publish, "the publish, after both releases,")?
+    } else {
+        let writer = comes(&publish, "the publish, with a later handle inside before that guard,")?;
+        drop(guard);
+        writer
+    };
+    drop(writer);
+
+    let (stays, goes) = if behind { (1, 2) } else { (2, 1) };
+    let mut calls = vec![
+        (CREATE, (0, 1)),
+        (CREATE, (0, 2)),
+        (of(stays, ENTER), (0, 0)),
+        (of(stays, GO_ON), (0, 0)),
+        (of(goes, ENTER), (0, 0)),
+        (of(goes, GO_ON), (0, 0)),
+        (PUBLISH, (0, 0)),
+        (RUN, (0, 17)),
+        (of(goes, RELEASE), (0, 0)),
+        (of(goes, DROP), (0, 0)),
+        (CREATE, (0, goes.into())),
+        (PUBLISH, (0, 0)),
+        (RUN, (13, stays.into())),
+        (of(goes, ENTER), (0, 0)),
+        (of(goes, GO_ON), (0, 0)),
+        (of(stays, RELEASE), (0, 0)),
+    ];
+    if behind {
+        calls.extend([(RUN, (13, 1)), (of(goes, RELEASE), (0, 0))]);
+    }
+    calls.push((RUN, (0, 32)));
+    ours(player, &calls)
+}
+
+/// Take and the drop of the writer make appends visible: of their two publishes the first does, and the second waits.
+fn ends_expose(player: Player) -> Result<(), String> {
+    let ends: [fn(Writer); 2] = [|writer| drop(writer.take()), drop];
+    for end in ends {
+        let (mut writer, reader) = left_right::new::<Counts, Change>();
+        let other = reader.clone();
+        writer.publish();
+        writer.append(Change::Add(7, 3));
+        let guard = reader.enter().ok_or("no guard")?;
+        let ended = apart(move || end(writer));
+        becomes(|| seven(&other) == Some(3), "a count of 3 while the writer ends")?;
+        drop(guard);
+        comes(&ended, "the writer's end, after the release,")?;
+    }
+
+    ours(
+        player,
+        &[
+            (CREATE, (0, 1)),
+            (CREATE, (0, 2)),
+            (PUBLISH, (0, 0)),
+            (RUN, (0, 17)),
+            (ADD, (0, 0)),
+            (ENTER, (0, 0)),
+            (GO_ON, (0, 0)),
+            (TAKE, (0, 0)),
+            (RUN, (13, 38)),
+            (of(2, ENTER), (0, 0)),
+            (of(2, GO_ON), (0, 0)),
+            (of(2, SEVEN), (0, 3)),
+        ],
+    )
+}
+
 pub fn all(player: Player) -> Result<String, String> {
     publish(player)?;
     take(player)?;
     later_handle(player)?;
+    meanwhile(player, false)?;
+    meanwhile(player, true)?;
+    ends_expose(player)?;
     Ok("with two threads: a publish, a take and a new handle wait where ours are held or locked\n".to_string())
 }

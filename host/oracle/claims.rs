@@ -1,4 +1,5 @@
-//! What docs/DIFFERENCES.md says of the crate, where its comments say something else: each is run here, on one thread.
+//! What docs/DIFFERENCES.md says of the crate and marks as run, where its comments say something else: on one thread.
+//! What takes two is in blocking.rs.
 
 use crate::world::{work_done, Change, Counts, World};
 use left_right::Absorb;
@@ -37,12 +38,13 @@ impl Absorb<()> for Seen {
     }
 }
 
-pub fn all() -> Result<String, String> {
-    let world = World::new(false);
-    let shown = world.shown().unwrap();
-    holds(shown.first && shown.second, "`second` is true before any publish")?;
+fn second_from_the_start() -> Result<(), String> {
+    let shown = World::new(false).shown().unwrap();
+    holds(shown.first && shown.second, "`second` is true before any publish")
+}
 
-    // Appends while `first` are in no log, and flush does not see them.
+/// Appends while `first` are in no log, and flush does not see them.
+fn first_publishes() -> Result<(), String> {
     let mut world = World::new(false);
     world.create(1);
     world.append(ADD);
@@ -65,40 +67,105 @@ pub fn all() -> Result<String, String> {
     holds(!world.try_publish(), "and waits for the last guard, whichever copy it is on")?;
     world.release(1, 1);
     world.publish();
-    holds(work_done().synchronised == 1, "the second publish synchronises")?;
+    holds(work_done().synchronised == 1, "the second publish synchronises")
+}
 
-    // Take after one publish lets go of a copy that never saw the first appends.
+/// Publish is not the only call that makes appends visible.
+fn exposed() -> Result<(), String> {
     let mut world = World::new(false);
     world.create(1);
     world.append(ADD);
-    world.publish();
-    let ended = world.take();
-    holds(work_done().synchronised == 0, "take after one publish does not synchronise")?;
-    holds(ended.dropped == Some(Counts::default()), "and drops a copy without the first appends")?;
-    holds(ended.handed.words() == [1, 0, 7, 3], "and hands over the other")?;
-    holds(world.was_dropped(1) && world.enter(1).is_none(), "take did not wait for the handle, only for guards")?;
+    holds(world.try_publish(), "a try while `first` publishes")?;
+    world.enter(1);
+    holds(world.counts(1, 0).pairs.get(&7) == Some(&3), "a try makes appends visible")?;
+    world.append(ADD);
+    world.flush();
+    world.enter(1);
+    holds(world.counts(1, 1).pairs.get(&7) == Some(&6), "a flush makes appends visible")
+}
 
-    // A handle made after the last publish is waited for if it has an old handle's key.
+/// Take lets go of a copy that never saw the appends where no publish was made, or one and nothing appended since, and
+/// nowhere else: after every row of at most six appends and publishes.
+fn taken() -> Result<(), String> {
+    for (length, row) in (0..7).flat_map(|length| (0..1 << length).map(move |row: u32| (length, row))) {
+        let mut world = World::new(false);
+        for at in 0..length {
+            if row >> at & 1 == 1 {
+                world.publish();
+            } else {
+                world.append(Change::Add(at, 1));
+            }
+        }
+        let ended = world.take();
+        let never = row == 0 || row == 1 << (length - 1);
+        holds(work_done().synchronised == u64::from(!never), "the copies are synchronised after all other rows")?;
+        let all = Counts { pairs: (0..length).filter(|at| row >> at & 1 == 0).map(|at| (at, 1)).collect(), spill: 0 };
+        holds(ended.handed == all, "take hands over a copy with all appends")?;
+        let dropped = if never { Counts::default() } else { all };
+        holds(ended.dropped == Some(dropped), "take drops a copy with all appends, or one never synchronised")?;
+    }
+    Ok(())
+}
+
+fn take_leaves_handles() -> Result<(), String> {
+    let mut world = World::new(false);
+    world.create(1);
+    world.take();
+    holds(world.was_dropped(1) && world.enter(1).is_none(), "take did not wait for the handle, only for guards")
+}
+
+/// A world whose slot 1 was inside at the last swap, and is not now.
+fn left() -> World {
     let mut world = World::new(false);
     world.create(1);
     world.enter(1);
     world.publish();
     world.release(1, 0);
-    world.drop_handle(1);
-    world.create(1);
-    holds(world.try_publish(), "a new handle outside is not waited for")?;
+    world
+}
+
+fn leaving_is_enough() -> Result<(), String> {
+    holds(left().try_publish(), "a reader that has left is not waited for, though it has seen nothing since the swap")
+}
+
+/// A handle made after the last publish is waited for if it has an old handle's key.
+fn later_handles() -> Result<(), String> {
+    for inside in [false, true] {
+        let mut world = left();
+        world.drop_handle(1);
+        world.create(1);
+        if inside {
+            world.enter(1);
+        }
+        holds(world.try_publish() != inside, "a new handle is waited for inside, though it never saw the old copy")?;
+    }
+    Ok(())
+}
+
+/// Numbers that were not read at the last swap.
+fn older_numbers() -> Result<(), String> {
     let mut world = World::new(false);
     world.create(1);
     world.enter(1);
+    holds(world.try_publish(), "before the first swap a try passes a reader that is inside")?;
+
+    let mut world = World::new(false);
     world.publish();
-    world.release(1, 0);
-    world.drop_handle(1);
     world.create(1);
     world.enter(1);
-    holds(!world.try_publish(), "a new handle inside is waited for, though it never saw the old copy")?;
+    holds(world.try_publish(), "a number that nobody read is even, and whoever is inside is passed")?;
 
-    // Two freed slots: the key freed last is handed out first. By the scope this handle would be in slot 1, whose
-    // snapshot is odd, and the try would be declined.
+    let mut world = left();
+    world.drop_handle(1);
+    world.publish();
+    world.create(1);
+    world.enter(1);
+    holds(!world.try_publish(), "a number of the swap before the last, from a handle that is gone, is waited for")
+}
+
+/// Two freed slots: the key freed last is handed out first. By the scope this handle would be in slot 1, whose snapshot
+/// is odd, and the try would be declined.
+fn two_freed_slots() -> Result<(), String> {
     let mut world = World::new(false);
     world.create(1);
     world.create(2);
@@ -109,24 +176,44 @@ pub fn all() -> Result<String, String> {
     world.drop_handle(2);
     world.create(1);
     world.enter(1);
-    holds(world.try_publish(), "with two freed slots the crate's slab hands out the one freed last")?;
+    holds(world.try_publish(), "with two freed slots the crate's slab hands out the one freed last")
+}
 
-    // While `first`, the other copy is behind and not ahead.
+/// While `first`, the other copy is behind and not ahead.
+fn other_copy() -> Result<(), String> {
     let (mut writer, _reader) = left_right::new::<Seen, ()>();
     writer.append(()).append(());
     holds(AHEAD.get() == -1, "a second absorption while `first` sees a copy that is behind")?;
     writer.publish().append(()).publish().publish();
-    holds(AHEAD.get() == 1, "later it sees one that is ahead")?;
+    holds(AHEAD.get() == 1, "later it sees one that is ahead")
+}
 
+fn empty_drain() -> Result<(), String> {
     let mut log: VecDeque<u8> = VecDeque::from([1]);
     log.drain(0..0);
-    holds(log.len() == 1, "drain(0..0) removes nothing")?;
+    holds(log.len() == 1, "drain(0..0) removes nothing")
+}
 
-    // A forgotten guard leaves the handle inside, and its drop panics, after it has left the slab.
+/// A forgotten guard leaves the handle inside, and its drop panics, after it has left the slab.
+fn forgotten_guard() -> Result<(), String> {
     let (_writer, reader) = left_right::new::<Counts, Change>();
     std::mem::forget(reader.enter());
     let dropped = catch_unwind(AssertUnwindSafe(|| drop(reader)));
-    holds(dropped.is_err(), "a handle with a forgotten guard panics when it is dropped")?;
-    work_done();
+    holds(dropped.is_err(), "a handle with a forgotten guard panics when it is dropped")
+}
+
+pub fn all() -> Result<String, String> {
+    second_from_the_start()?;
+    first_publishes()?;
+    exposed()?;
+    taken()?;
+    take_leaves_handles()?;
+    leaving_is_enough()?;
+    later_handles()?;
+    older_numbers()?;
+    two_freed_slots()?;
+    other_copy()?;
+    empty_drain()?;
+    forgotten_guard()?;
     Ok("what is said of the crate's comments holds of its code\n".to_string())
 }

@@ -4,8 +4,8 @@
 //!   oracle sample FILE [HISTORIES [SEED]]
 //!
 //! Random histories of whole calls are made on the crate, on one thread, and played by our player from a schedule; each
-//! answer and value that the crate has is compared. Then what docs/DIFFERENCES.md says of the crate is run, and two
-//! threads show where the crate waits and ours is held.
+//! answer and value that the crate has is compared. Then what docs/DIFFERENCES.md says of the crate and marks as run is
+//! run, and two threads show where the crate waits and ours is held.
 //! A difference is shrunk and printed as a schedule in the text form, and the status is 1.
 //! With `sample`, the histories and the transcripts agreed on are written to FILE, if none differs, and that is all.
 
@@ -72,6 +72,13 @@ fn report(player: Player) {
     }
 }
 
+/// What is said of the crate. Where that is not so, a call may panic, or wait for ever.
+fn said(player: Player) -> Result<String, String> {
+    let back = blocking::apart(move || Ok(claims::all()? + &blocking::all(player)?));
+    let ended = back.recv_timeout(Duration::from_secs(120));
+    ended.unwrap_or_else(|what| Err(format!("what is said of the crate did not end: {what}")))
+}
+
 fn main() -> ExitCode {
     let mut words = std::env::args().skip(1).peekable();
     let file = words.next_if(|word| word == "sample").map(|_| words.next().expect("a file for the sample"));
@@ -118,20 +125,20 @@ fn main() -> ExitCode {
         met.full_logs
     );
 
-    // From here on threads wait on purpose, with limits of their own.
+    // From here on threads wait on purpose, with limits of their own; beside these there is one for the whole.
     HISTORIES.store(OVER, Ordering::Relaxed);
-    let rest = match file {
-        Some(file) => vec![sample::write(&file, &kept)],
-        None => vec![claims::all(), blocking::all(player)],
+    let outcome = match file {
+        Some(file) => sample::write(&file, &kept),
+        None => said(player),
     };
-    for outcome in rest {
-        match outcome {
-            Ok(line) => print!("{line}"),
-            Err(what) => {
-                println!("{what}");
-                return ExitCode::FAILURE;
-            }
+    match outcome {
+        Ok(lines) => {
+            print!("{lines}");
+            ExitCode::SUCCESS
+        }
+        Err(what) => {
+            println!("{what}");
+            ExitCode::FAILURE
         }
     }
-    ExitCode::SUCCESS
 }
