@@ -87,10 +87,10 @@ pub inventsValue-wrong-at-end : Follows inventsValue → ⊥
 unfolding tells
 inventsValue-wrong-at-end h = differ refl (h .ends [] Publish refl refl (Run ∷ []) .at-end refl refl)
 
--- left
-pub acceptsBusy-wrong-left : Follows acceptsBusy → ⊥
+-- rest
+pub acceptsBusy-wrong-rest : Follows acceptsBusy → ⊥
 unfolding tells
-acceptsBusy-wrong-left h = apart length refl (h .ends [] Publish refl refl (Step ∷ Open Publish ∷ []) .left refl)
+acceptsBusy-wrong-rest h = apart length refl (h .ends [] Publish refl refl (Step ∷ Open Publish ∷ []) .rest refl)
 
 -- published
 pub acceptsBusy-wrong-published : Follows acceptsBusy → ⊥
