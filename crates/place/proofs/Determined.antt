@@ -27,7 +27,7 @@ by-value-determined κs a r q s t h l = h ∙ sym l
 leave-determined : (κs : _) (a : _) (r q : _) (s t : _) → leave.Post κs a r s → leave.Post κs a q t → r ≡ q
 leave-determined κs a r q s t h l = h ∙ sym l
 
-abbrev Says : ℕ → Slot → Answer → Slot → Type 0
+abbrev pub Says : ℕ → Slot → Answer → Slot → Type 0
 Says j before a after = record { answer = a; slot = after } ≡ releaseRule j before
 
 release-says :

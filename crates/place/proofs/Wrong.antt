@@ -1,5 +1,5 @@
--- Wrong releases, and for each a proof that the promise is false of it: one record where the two differ. The three functions of this
--- crate make the same promise, of the answer and the record after it.
+-- Wrong releases, and for each a proof that the contract's promise (`Promises`) is false of it, whichever of the three functions it stands
+-- for: one record, of its type, where what the release does wrong is read off.
 use Prim.Native.Nat.{ℕ}
 use mathlib.Core.Path.{_≡_, refl}
 use mathlib.Core.Bool.{true, false}
@@ -15,9 +15,13 @@ use Rattle.read.specs.Handles.{released}
 use Rattle.read.proofs.Computes.{rules}
 use Rattle.place.specs.declared.Released.{Released}
 use Rattle.place.specs.Release.{releaseRule}
+use Rattle.place.proofs.Promises.{Function, by-value, release, leave, has, Promise}
 
-abbrev Keeps : (ℕ → Slot → Released) → Type 0
-Keeps release = (guard : ℕ) (s : Slot) → release guard s ≡ releaseRule guard s
+-- each of the three says that the answer and the record are the rule's
+says : (k : Function) (f : ℕ → Slot → Released) → Promise k f → (j : ℕ) (s : Slot) → has (s, (j, tt)) ≡ true → f j s ≡ releaseRule j s
+says by-value f h j s = h j s
+says release f h j s = h j s
+says leave f h j s = h j s
 
 -- a handle inside, with guard 0 alone
 abbrev inside : Slot
@@ -29,9 +33,9 @@ leavesEpoch guard s =
     let r = releaseRule guard s in
     record { answer = r .answer; slot = record { used = s .used; epoch = s .epoch; guards = r .slot .guards; due = s .due } }
 
-leaves-epoch : Keeps leavesEpoch → ⊥
+leavesEpoch-wrong : (k : Function) → Promise k leavesEpoch → ⊥
 unfolding releaseRule rules
-leaves-epoch h = apart (λ r. r .slot .epoch) refl (h 0 inside)
+leavesEpoch-wrong k h = apart (λ r. r .slot .epoch) refl (says k leavesEpoch h 0 inside refl)
 
 -- the guard stays open
 abbrev leavesGuard : ℕ → Slot → Released
@@ -39,22 +43,23 @@ leavesGuard guard s =
     let r = releaseRule guard s in
     record { answer = r .answer; slot = record { used = s .used; epoch = r .slot .epoch; guards = s .guards; due = s .due } }
 
-leaves-guard : Keeps leavesGuard → ⊥
+leavesGuard-wrong : (k : Function) → Promise k leavesGuard → ⊥
 unfolding releaseRule rules
-leaves-guard h = apart (λ r. elim (getD (r .slot .guards) 0 shut .opened) [ true ↦ 1 | false ↦ 0 ]) refl (h 0 inside)
+leavesGuard-wrong k h =
+    apart (λ r. elim (getD (r .slot .guards) 0 shut .opened) [ true ↦ 1 | false ↦ 0 ]) refl (says k leavesGuard h 0 inside refl)
 
 -- a guard that is not open is released too
 abbrev releasesShut : ℕ → Slot → Released
 releasesShut guard s = record { answer = Done; slot = released guard s }
 
-releases-shut : Keeps releasesShut → ⊥
+releasesShut-wrong : (k : Function) → Promise k releasesShut → ⊥
 unfolding releaseRule rules
-releases-shut h = apart (λ r. number (r .answer)) refl (h 1 inside)
+releasesShut-wrong k h = apart (λ r. number (r .answer)) refl (says k releasesShut h 1 inside refl)
 
 -- every release is refused
 abbrev refusesAll : ℕ → Slot → Released
 refusesAll guard s = record { answer = NoGuard; slot = s }
 
-refuses-all : Keeps refusesAll → ⊥
+refusesAll-wrong : (k : Function) → Promise k refusesAll → ⊥
 unfolding releaseRule rules
-refuses-all h = apart (λ r. number (r .answer)) refl (h 0 inside)
+refusesAll-wrong k h = apart (λ r. number (r .answer)) refl (says k refusesAll h 0 inside refl)

@@ -7,6 +7,7 @@ pub mod Due
 pub mod StepsDue
 pub mod Plays
 pub mod Determined
+pub mod Promises
 pub mod Computes
 pub mod Ends
 pub mod Wrong

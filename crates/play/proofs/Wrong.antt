@@ -1,5 +1,5 @@
--- Wrong players, each with one part of the right one changed, and for each a proof that the promise is false of it: one file where the
--- two differ, computed.
+-- Wrong players, each with one part of the right one changed, and for each a proof that the contract's promise (`Promises`) is false of
+-- it: one file, of bytes, where what the player does wrong is read off.
 use Prim.Native.Nat.{ℕ, zero, suc, _+_, _-_, _*_, _/_, _^_, _≤_}
 use mathlib.Core.Path.{_≡_, refl, ap, _∙_}
 use mathlib.Core.Bool.{true, false}
@@ -9,6 +9,7 @@ use borrow.Author.Tests.{eqb-false}
 use lib.Dec.{eqb, ltb, leb}
 use lib.ListN.{length, getD, take, drop, set, replicate}
 use Rattle.table.proofs.Computes.{apart}
+use Rattle.table.proofs.Contracts.{Bytes, slice}
 use Rattle.table.specs.Answers.{number}
 use Rattle.table.specs.Copy.{words}
 use Rattle.table.specs.declared.Answer.the-variants as answer
@@ -20,19 +21,47 @@ use Rattle.write.specs.declared.Call.{Call}
 use Rattle.write.specs.declared.Call.the-variants.{Create, On, Append, Open, Step, Run}
 use Rattle.write.specs.Machine.{callRule}
 use Rattle.play.specs.declared.Flaw.{Flaw}
-use Rattle.play.specs.Schedule.{numberAt, bytesOf, headBytes, recordBytes, count, startOf, marked, versionOf, torn, firstUnknown, callOf, decoded, callsFrom}
+use Rattle.play.specs.Schedule.{numberAt, bytesOf, recordBytes, count, startOf, marked, versionOf, torn, firstUnknown, callOf, decoded, callsFrom}
 use Rattle.play.specs.Player.{entryBytes, entryOf, transcript, played, flaw, flawOf, refusalOf, Output, output, playRule}
 use Rattle.play.specs.Refusals.{Player, Applies, Refusals}
 use Rattle.play.proofs.Computes.{rules}
 use Rattle.play.proofs.Ends.{head, recordOf, p1}
+use Rattle.play.proofs.Promises.{CountPromise, CheckPromise, PlayPromise}
 
--- ---- the promise, of any player
+-- ---- what the witnesses are made of
 
-abbrev Keeps : Player → Type 0
-Keeps play = (s out : List ℕ) → play s out ≡ playRule s out
+-- P1; a create; a call that is unknown, with a torn record behind it and without
+abbrev p1Bytes : Bytes
+p1Bytes = slice p1 refl
 
+abbrev create : Bytes
+create = slice (head ++ recordOf 1 0 0 0 0 0) refl
+
+abbrev unknownTorn : Bytes
+unknownTorn = slice (head ++ (recordOf 15 0 0 0 0 0 ++ (0 ∷ []))) refl
+
+abbrev unknown : Bytes
+unknown = slice (head ++ recordOf 15 0 0 0 0 0) refl
+
+-- an output of no byte, and one of as many as P1's transcript has
+abbrev noRoom : Bytes
+noRoom = slice [] refl
+
+abbrev room : Bytes
+room = slice (replicate 63 0) refl
+
+-- what is read off a result
 abbrev byte : ℕ → Output → ℕ
 byte i o = getD (o .bytes) i 0
+
+abbrev answered : Output → ℕ
+answered o = o .result .answer
+
+abbrev reported : Output → ℕ
+reported o = o .result .written
+
+abbrev itself : ℕ → ℕ
+itself n = n
 
 -- ---- a player by its parts
 
@@ -80,9 +109,9 @@ right-transcript (k ∷ ks) st l r g =
     ap (λ (w : List ℕ). entryOf (number (o .made .answer)) (o .made .value) ++ w)
     (right-transcript ks (o .made .state) (o .left) (o .right) (o .log))
 
-right-keeps : Keeps (playBy flawOf decoded callRule entryBytes entryOf)
+right-plays : (s out : List ℕ) → playBy flawOf decoded callRule entryBytes entryOf s out ≡ playRule s out
 unfolding playRule
-right-keeps s out =
+right-plays s out =
     ap
     (λ (w : List ℕ).
     elim (eqb (refusalOf s (length out)) 0) [
@@ -93,6 +122,9 @@ right-keeps s out =
     (replicate logWords 0)
     ∙ ap played (right-calls s 0 (count s)))
 
+right-keeps : PlayPromise (playBy flawOf decoded callRule entryBytes entryOf)
+right-keeps s out typed = right-plays (s .list) (out .list)
+
 -- ---- one byte of a key is read at another place
 
 abbrev keyElsewhere : List ℕ → ℕ → Call
@@ -101,9 +133,9 @@ keyElsewhere s i =
     callOf (getD s a 0) (getD s (a + 1) 0) (getD s (a + 2) 0) (getD s (a + 3) 0)
     (numberAt 7 s (a + 4) + 256 ^ 7 * getD s (a + 12) 0) (numberAt 8 s (a + 12))
 
-key-elsewhere : Keeps (playBy flawOf keyElsewhere callRule entryBytes entryOf) → ⊥
+keyElsewhere-wrong : PlayPromise (playBy flawOf keyElsewhere callRule entryBytes entryOf) → ⊥
 unfolding rules
-key-elsewhere h = apart (byte 55) refl (h p1 (replicate 63 0))
+keyElsewhere-wrong h = apart (byte 55) refl (h p1Bytes room refl)
 
 -- ---- a value is cut to 32 bits
 
@@ -111,14 +143,16 @@ abbrev cutTo32 : ℕ → ℕ → List ℕ
 cutTo32 a v = a ∷ (bytesOf 4 v ++ (0 ∷ 0 ∷ 0 ∷ 0 ∷ []))
 
 -- an amount of 2^32 + 3 is looked up
-abbrev large : List ℕ
+abbrev large : Bytes
 large =
-    head ++ (recordOf 1 0 0 0 0 0 ++ (recordOf 8 0 0 1 7 (2 ^ 32 + 3) ++ (recordOf 9 0 0 0 0 0 ++ (recordOf 14 0 0 0 0 0
-    ++ (recordOf 3 1 0 0 0 0 ++ (recordOf 4 1 0 0 0 0 ++ recordOf 6 1 0 0 7 0))))))
+    slice
+    (head ++ (recordOf 1 0 0 0 0 0 ++ (recordOf 8 0 0 1 7 (2 ^ 32 + 3) ++ (recordOf 9 0 0 0 0 0 ++ (recordOf 14 0 0 0 0 0
+    ++ (recordOf 3 1 0 0 0 0 ++ (recordOf 4 1 0 0 0 0 ++ recordOf 6 1 0 0 7 0)))))))
+    refl
 
-cut-to-32 : Keeps (playBy flawOf decoded callRule entryBytes cutTo32) → ⊥
+cutTo32-wrong : PlayPromise (playBy flawOf decoded callRule entryBytes cutTo32) → ⊥
 unfolding rules
-cut-to-32 h = apart (byte 59) refl (h large (replicate 63 0))
+cutTo32-wrong h = apart (byte 59) refl (h large room refl)
 
 -- ---- 24 is found before 23
 
@@ -133,24 +167,24 @@ unknownFirst s =
       | false ↦ flaw 21 0
     ]
 
-unknown-first : Keeps (playBy unknownFirst decoded callRule entryBytes entryOf) → ⊥
+unknownFirst-wrong : PlayPromise (playBy unknownFirst decoded callRule entryBytes entryOf) → ⊥
 unfolding rules
-unknown-first h = apart (λ o. o .result .answer) refl (h (head ++ (recordOf 15 0 0 0 0 0 ++ (0 ∷ []))) [])
+unknownFirst-wrong h = apart answered refl (h unknownTorn noRoom refl)
 
 -- ---- an entry has ten bytes
 
-ten-bytes : Keeps (playBy flawOf decoded callRule 10 (λ a v. a ∷ bytesOf 9 v)) → ⊥
+tenBytes-wrong : PlayPromise (playBy flawOf decoded callRule 10 (λ a v. a ∷ bytesOf 9 v)) → ⊥
 unfolding rules
-ten-bytes h = apart (λ o. o .result .written) refl (h (head ++ recordOf 1 0 0 0 0 0) (replicate 10 0))
+tenBytes-wrong h = apart reported refl (h create room refl)
 
 -- ---- a machine that does nothing
 
 abbrev idleMachine : Machine
 idleMachine k st l r g = lent (record { answer = answer.Done; value = 0; state = st }) l r g
 
-idle-machine : Keeps (playBy flawOf decoded idleMachine entryBytes entryOf) → ⊥
+idleMachine-wrong : PlayPromise (playBy flawOf decoded idleMachine entryBytes entryOf) → ⊥
 unfolding rules
-idle-machine h = apart (byte 1) refl (h (head ++ recordOf 1 0 0 0 0 0) (replicate 9 0))
+idleMachine-wrong h = apart (byte 1) refl (h create room refl)
 
 -- ---- a run that invents its value
 
@@ -167,9 +201,9 @@ inventing k st l r g =
     let o = callRule k st l r g in
     lent (record { answer = o .made .answer; value = invented k (o .made .value); state = o .made .state }) (o .left) (o .right) (o .log)
 
-invents : Keeps (playBy flawOf decoded inventing entryBytes entryOf) → ⊥
+inventing-wrong : PlayPromise (playBy flawOf decoded inventing entryBytes entryOf) → ⊥
 unfolding rules
-invents h = apart (byte 28) refl (h p1 (replicate 63 0))
+inventing-wrong h = apart (byte 28) refl (h p1Bytes room refl)
 
 -- ---- the output past the transcript is touched
 
@@ -177,50 +211,55 @@ abbrev wiping : Player
 wiping s out =
     let o = playRule s out in
     let n = o .result .written in
-    output (o .result) (take n (o .bytes) ++ replicate (length out - n) 0)
+    elim (eqb (o .result .answer) 0)
+    [ true ↦ output (o .result) (take n (o .bytes) ++ replicate (length out - n) 0) | false ↦ o ]
 
-wipes : Keeps wiping → ⊥
+wiping-wrong : PlayPromise wiping → ⊥
 unfolding rules
-wipes h = apart (byte 9) refl (h (head ++ recordOf 1 0 0 0 0 0) (replicate 10 170))
+wiping-wrong h = apart (byte 9) refl (h create (slice (replicate 10 170) refl) refl)
 
--- ---- every file is refused; a refused file is written for
+-- ---- every file is refused; a refused file is written for, or has bytes reported
 
 abbrev refusing : Player
 refusing s out = output (record { answer = 21; written = 0 }) out
 
-refuses : Keeps refusing → ⊥
+refusing-wrong : PlayPromise refusing → ⊥
 unfolding rules
-refuses h = apart (λ o. o .result .answer) refl (h head [])
+refusing-wrong h = apart answered refl (h create room refl)
 
 abbrev hasty : Player
 hasty s out =
     let o = playRule s out in
     elim (eqb (o .result .answer) 0) [ true ↦ o | false ↦ output (o .result) (set out 0 0) ]
 
-hurries : Keeps hasty → ⊥
+hasty-wrong : PlayPromise hasty → ⊥
 unfolding rules
-hurries h = apart (byte 0) refl (h [] (170 ∷ []))
+hasty-wrong h = apart (byte 0) refl (h unknown (slice (170 ∷ []) refl) refl)
+
+abbrev boasting : Player
+boasting s out = let o = playRule s out in output (record { answer = o .result .answer; written = entryBytes * count s }) (o .bytes)
+
+boasting-wrong : PlayPromise boasting → ⊥
+unfolding rules
+boasting-wrong h = apart reported refl (h p1Bytes noRoom refl)
 
 -- ---- the refusals, as `Refusals` has them
 
 -- a byte is written for a refused file
-hasty-refusal : Refusals hasty → ⊥
+hasty-refusals-wrong : Refusals hasty → ⊥
 unfolding rules
-hasty-refusal h = apart (λ w. getD w 0 0) refl (h [] (170 ∷ []) .1 (eqb-false 21 0 refl) .untouched)
+hasty-refusals-wrong h = apart (λ w. getD w 0 0) refl (h [] (170 ∷ []) .1 (eqb-false 21 0 refl) .untouched)
 
 -- bytes are reported for a refused file
-abbrev boasting : Player
-boasting s out = let o = playRule s out in output (record { answer = o .result .answer; written = entryBytes * count s }) (o .bytes)
-
-boasting-refusal : Refusals boasting → ⊥
+boasting-refusals-wrong : Refusals boasting → ⊥
 unfolding rules
-boasting-refusal h = eqb-false 63 0 refl (h p1 [] .1 (eqb-false 25 0 refl) .reported)
+boasting-refusals-wrong h = eqb-false 63 0 refl (h p1 [] .1 (eqb-false 25 0 refl) .reported)
 
 -- 24 is given where 23 applies
-unknown-first-refusal : Refusals (playBy unknownFirst decoded callRule entryBytes entryOf) → ⊥
+unknownFirst-refusals-wrong : Refusals (playBy unknownFirst decoded callRule entryBytes entryOf) → ⊥
 unfolding rules
-unknown-first-refusal h =
-    let s = head ++ (recordOf 15 0 0 0 0 0 ++ (0 ∷ [])) in
+unknownFirst-refusals-wrong h =
+    let s = unknownTorn .list in
     let t : Applies s [] 23 = Applies.torn (λ n e. let d : 26 ≡ 5 + 20 * n = e in omega arith) in
     let l : 24 ≤ 23 = h s [] .1 (eqb-false 24 0 refl) .smallest 23 t in
     omega arith
@@ -228,17 +267,26 @@ unknown-first-refusal h =
 -- ---- the public parts
 
 -- the records are counted with the head, or with the torn one
-count-with-head : ((s : List ℕ) → length s / recordBytes ≡ count s) → ⊥
-count-with-head h = eqb-false 1 0 refl (h (replicate 20 0))
+abbrev withHead : List ℕ → ℕ
+withHead s = length s / recordBytes
 
-count-with-torn : ((s : List ℕ) → suc ((length s - headBytes) / recordBytes) ≡ count s) → ⊥
-count-with-torn h = eqb-false 1 0 refl (h head)
+withHead-wrong : CountPromise withHead → ⊥
+withHead-wrong h = apart itself refl (h (slice (replicate 20 0) refl) refl)
 
--- 24 is found before 23, or the record behind the flaw is named
-check-unknown-first : ((s : List ℕ) → unknownFirst s ≡ flawOf s) → ⊥
+abbrev withTorn : List ℕ → ℕ
+withTorn s = elim (torn s) [ true ↦ suc (count s) | false ↦ count s ]
+
+withTorn-wrong : CountPromise withTorn → ⊥
+withTorn-wrong h = apart itself refl (h unknownTorn refl)
+
+-- 24 is found before 23, or the record behind the unknown one is named
+unknownFirst-check-wrong : CheckPromise unknownFirst → ⊥
 unfolding rules
-check-unknown-first h = eqb-false 24 23 refl (ap (λ (f : Flaw). f .answer) (h (head ++ (recordOf 15 0 0 0 0 0 ++ (0 ∷ [])))))
+unknownFirst-check-wrong h = apart (λ f. f .answer) refl (h unknownTorn refl)
 
-check-names-next : ((s : List ℕ) → flaw (flawOf s .answer) (suc (flawOf s .place)) ≡ flawOf s) → ⊥
+abbrev namesNext : List ℕ → Flaw
+namesNext s = let f = flawOf s in elim (eqb (f .answer) 24) [ true ↦ flaw 24 (suc (f .place)) | false ↦ f ]
+
+namesNext-wrong : CheckPromise namesNext → ⊥
 unfolding rules
-check-names-next h = eqb-false 1 0 refl (ap (λ (f : Flaw). f .place) (h (head ++ recordOf 15 0 0 0 0 0)))
+namesNext-wrong h = apart (λ f. f .place) refl (h unknown refl)

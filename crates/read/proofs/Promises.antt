@@ -1,14 +1,8 @@
--- Each public contract as a promise of any program, a program being a function of the arguments. `Post` is the contract itself, as the
--- check reads it from the source, and `Kinds.ps` are the parameters' types: the promise is of the values that these types have.
-use Prim.Native.Nat.{ℕ, _^_}
-use mathlib.Core.Path.{_≡_}
-use mathlib.Core.Bool.{Bool, true, _&&_, _||_}
-use mathlib.Core.List.{List, [], _∷_}
-use lib.Dec.{ltb}
-use mir.Val.{Val, Vals, vunit, vbool, vint, vfloat, vptr, vstruct, vnil, vcons, bits, hasTy}
-use contract.Lifetimes.{Lfts}
-use denote.Ref.{RefT}
-use borrow.Fn.Kinds.{PK, Dens}
+-- Each public contract as a promise of any program, a program being a function of the arguments (`table`'s `Contracts`).
+use Prim.Native.Nat.{ℕ}
+use mathlib.Core.Bool.{Bool, _||_}
+use mathlib.Core.List.{List}
+use Rattle.table.proofs.Contracts.{typed, Words, ref, Refs, refs, lends, κ₁, κ₂, κ₃, Leaves, Keeps, Keeps1, Keeps2}
 use Rattle.read.specs.declared.Due.{Due}
 use Rattle.read.specs.declared.Guard.{Guard}
 use Rattle.read.specs.declared.Slot.{Slot}
@@ -26,73 +20,6 @@ use Rattle.read.specs.Admission.{row, column, entry}
 use Rattle.read.specs.Handles.{smallest, handleSigns, freed, entered, wentOn, released, guardedCopy, handleOn}
 use Rattle.read.specs.Calls.{Lent, handleRule, createRule, viewRule, pairRule, startRule}
 use Rattle.read.proofs
-
--- ---- the values that a type has
-
--- each number is one that its width holds
-abbrev mutual
-  ranged : Val → Bool
-  ranged vunit = true
-  ranged (vbool b) = true
-  ranged (vint w n) = ltb n (2 ^ bits w)
-  ranged (vfloat f x) = true
-  ranged (vptr k o) = true
-  ranged (vstruct vs) = allRanged vs
-
-  allRanged : Vals → Bool
-  allRanged vnil = true
-  allRanged (vcons v vs) = ranged v && allRanged vs
-
--- each argument is of its type, as the check tests a machine value: an array has the length that is declared
-abbrev typed : {n : ℕ} (κs : Lfts n) (ps : List (PK n)) → Dens κs ps → Bool
-typed κs [] a = true
-typed κs (k ∷ ps) a =
-    let v = k .is .val κs (a .0) in
-    hasTy (k .is .ty) v && (ranged v && typed κs ps (a .1))
-
--- the words of a lent slice, which that test does not reach
-abbrev below : List ℕ → Bool
-below [] = true
-below (w ∷ ws) = ltb w (2 ^ 64) && below ws
-
-pub record Slice : Type 0 where
-  pub list : List ℕ
-  pub fits : below list ≡ true
-
-abbrev pub slice : (w : List ℕ) → below w ≡ true → Slice
-slice w h = record { list = w; fits = h }
-
--- a reference to these words. No contract says where they lie, or for how long they are lent: here for ever
-abbrev ref : List ℕ → RefT (List ℕ)
-ref w = record { ptr = (0, 0); name = 0; now = w }
-
-abbrev Refs : Type 0
-Refs = RefT (List ℕ) × (RefT (List ℕ) × (RefT (List ℕ) × Unit {0}))
-
-abbrev refs : Slice → Slice → Slice → Refs
-refs l r g = (ref (l .list), (ref (r .list), (ref (g .list), tt)))
-
-abbrev κ₁ : Lfts 1
-κ₁ = ([], tt)
-
-abbrev κ₂ : Lfts 2
-κ₂ = ([], κ₁)
-
-abbrev κ₃ : Lfts 3
-κ₃ = ([], κ₂)
-
--- ---- a promise, of a result
-
--- nothing is changed in place: at exit the parameters are what they were
-abbrev Keeps : {A R : Type 0} → (A → Bool) → (A → R → A → Type 0) → A → R → Type 0
-Keeps has post a r = has a ≡ true → post a r a
-
-abbrev Keeps1 : {A R : Type 0} → (A × Unit {0} → Bool) → (A × Unit {0} → R → A × Unit {0} → Type 0) → (A → R) → Type 0
-Keeps1 {A = A} has post f = (a : A) → Keeps has post (a, tt) (f a)
-
-abbrev Keeps2 :
-    {A B R : Type 0} → (A × (B × Unit {0}) → Bool) → (A × (B × Unit {0}) → R → A × (B × Unit {0}) → Type 0) → (A → B → R) → Type 0
-Keeps2 {A = A} {B = B} has post f = (a : A) (b : B) → Keeps has post (a, (b, tt)) (f a b)
 
 -- ---- admission
 
@@ -152,13 +79,13 @@ SignsPromise f =
 
 abbrev pub GuardedCopyPromise : (List Guard → ℕ → List ℕ → List ℕ → List ℕ) → Type 0
 GuardedCopyPromise f =
-    (gs : List Guard) (j : ℕ) (l r : Slice) →
+    (gs : List Guard) (j : ℕ) (l r : Words) →
     Keeps (typed κ₁ proofs.handles.guarded_copy.Kinds.ps) (proofs.handles.guarded_copy.Reads.Post κ₁)
     (gs, (j, (ref (l .list), (ref (r .list), tt)))) (ref (f gs j (l .list) (r .list)))
 
 abbrev pub HandlePromise : (Control → Bool → Slot → Handle → List ℕ → List ℕ → Made) → Type 0
 HandlePromise f =
-    (c : Control) (own : Bool) (s : Slot) (h : Handle) (l r : Slice) →
+    (c : Control) (own : Bool) (s : Slot) (h : Handle) (l r : Words) →
     Keeps (typed κ₁ proofs.handles.handle.Kinds.ps) (proofs.handles.handle.Reads.Post κ₁)
     (c, (own, (s, (h, (ref (l .list), (ref (r .list), tt)))))) (f c own s h (l .list) (r .list))
 
@@ -181,39 +108,38 @@ SamePromise = Keeps2 (typed tt proofs.judge.same.Kinds.ps) (proofs.judge.same.Re
 
 abbrev pub SizedPromise : (List ℕ → List ℕ → List ℕ → Bool) → Type 0
 SizedPromise f =
-    (l r g : Slice) →
-    Keeps (typed κ₃ proofs.judge.sized.Kinds.ps) (proofs.judge.sized.Reads.Post κ₃) (refs l r g) (f (l .list) (r .list) (g .list))
+    (l r g : Words) →
+    Keeps (typed κ₃ proofs.judge.sized.Kinds.ps) (proofs.judge.sized.Reads.Post κ₃) (lends l r g) (f (l .list) (r .list) (g .list))
 
 abbrev pub GlancePromise : (Control → List ℕ → List ℕ → List ℕ → Verdict) → Type 0
 GlancePromise f =
-    (c : Control) (l r g : Slice) →
-    Keeps (typed κ₃ proofs.judge.glance.Kinds.ps) (proofs.judge.glance.Reads.Post κ₃) (c, refs l r g) (f c (l .list) (r .list) (g .list))
+    (c : Control) (l r g : Words) →
+    Keeps (typed κ₃ proofs.judge.glance.Kinds.ps) (proofs.judge.glance.Reads.Post κ₃) (c, lends l r g) (f c (l .list) (r .list) (g .list))
 
 abbrev pub JudgePromise : (Control → List ℕ → List ℕ → List ℕ → Verdict) → Type 0
 JudgePromise f =
-    (c : Control) (l r g : Slice) →
-    Keeps (typed κ₃ proofs.judge.judge.Kinds.ps) (proofs.judge.judge.Reads.Post κ₃) (c, refs l r g) (f c (l .list) (r .list) (g .list))
+    (c : Control) (l r g : Words) →
+    Keeps (typed κ₃ proofs.judge.judge.Kinds.ps) (proofs.judge.judge.Reads.Post κ₃) (c, lends l r g) (f c (l .list) (r .list) (g .list))
 
 -- ---- calls on the machine
 
 abbrev pub StartPromise : (List ℕ → List ℕ → List ℕ → Lent Reply) → Type 0
 StartPromise f =
-    (l r g : Slice) →
+    (l r g : Words) →
     let o = f (l .list) (r .list) (g .list) in
-    typed κ₃ proofs.start.Kinds.ps (refs l r g) ≡ true →
-    proofs.start.Reads.Post κ₃ (refs l r g) (o .made) (ref (o .left), (ref (o .right), (ref (o .log), tt)))
+    Leaves (typed κ₃ proofs.start.Kinds.ps) (proofs.start.Reads.Post κ₃) (lends l r g) (o .made) (refs (o .left) (o .right) (o .log))
 
 abbrev pub CreatePromise : (List ℕ → List ℕ → List ℕ → State → Reply) → Type 0
 CreatePromise f =
-    (l r g : Slice) (st : State) →
-    Keeps (typed κ₃ proofs.create.Kinds.ps) (proofs.create.Reads.Post κ₃) (st, refs l r g) (f (l .list) (r .list) (g .list) st)
+    (l r g : Words) (st : State) →
+    Keeps (typed κ₃ proofs.create.Kinds.ps) (proofs.create.Reads.Post κ₃) (st, lends l r g) (f (l .list) (r .list) (g .list) st)
 
 -- a call on a slot's handle
 abbrev OnSlot :
     (State × (ℕ × Refs) → Bool) → (State × (ℕ × Refs) → Reply → State × (ℕ × Refs) → Type 0) →
     (ℕ → List ℕ → List ℕ → List ℕ → State → Reply) → Type 0
 OnSlot has post f =
-    (i : ℕ) (l r g : Slice) (st : State) → Keeps has post (st, (i, refs l r g)) (f i (l .list) (r .list) (g .list) st)
+    (i : ℕ) (l r g : Words) (st : State) → Keeps has post (st, (i, lends l r g)) (f i (l .list) (r .list) (g .list) st)
 
 abbrev pub DropPromise : (ℕ → List ℕ → List ℕ → List ℕ → State → Reply) → Type 0
 DropPromise = OnSlot (typed κ₂ proofs.drop.Kinds.ps) (proofs.drop.Reads.Post κ₂)
@@ -229,32 +155,32 @@ WasDroppedPromise = OnSlot (typed κ₂ proofs.was_dropped.Kinds.ps) (proofs.was
 
 abbrev pub OnHandlePromise : (ℕ → Handle → List ℕ → List ℕ → List ℕ → State → Reply) → Type 0
 OnHandlePromise f =
-    (i : ℕ) (h : Handle) (l r g : Slice) (st : State) →
-    Keeps (typed κ₂ proofs.on_handle.Kinds.ps) (proofs.on_handle.Reads.Post κ₂) (st, (i, (h, refs l r g)))
+    (i : ℕ) (h : Handle) (l r g : Words) (st : State) →
+    Keeps (typed κ₂ proofs.on_handle.Kinds.ps) (proofs.on_handle.Reads.Post κ₂) (st, (i, (h, lends l r g)))
     (f i h (l .list) (r .list) (g .list) st)
 
 abbrev pub ReleasePromise : (ℕ → ℕ → List ℕ → List ℕ → List ℕ → State → Reply) → Type 0
 ReleasePromise f =
-    (i j : ℕ) (l r g : Slice) (st : State) →
-    Keeps (typed κ₂ proofs.release.Kinds.ps) (proofs.release.Reads.Post κ₂) (st, (i, (j, refs l r g)))
+    (i j : ℕ) (l r g : Words) (st : State) →
+    Keeps (typed κ₂ proofs.release.Kinds.ps) (proofs.release.Reads.Post κ₂) (st, (i, (j, lends l r g)))
     (f i j (l .list) (r .list) (g .list) st)
 
 abbrev pub LookUpPromise : (ℕ → ℕ → ℕ → List ℕ → List ℕ → List ℕ → State → Reply) → Type 0
 LookUpPromise f =
-    (i j key : ℕ) (l r g : Slice) (st : State) →
-    Keeps (typed κ₂ proofs.look_up.Kinds.ps) (proofs.look_up.Reads.Post κ₂) (st, (i, (j, (key, refs l r g))))
+    (i j key : ℕ) (l r g : Words) (st : State) →
+    Keeps (typed κ₂ proofs.look_up.Kinds.ps) (proofs.look_up.Reads.Post κ₂) (st, (i, (j, (key, lends l r g))))
     (f i j key (l .list) (r .list) (g .list) st)
 
 abbrev pub ViewPromise : (ℕ → ℕ → List ℕ → List ℕ → List ℕ → State → List ℕ) → Type 0
 ViewPromise f =
-    (i j : ℕ) (l r g : Slice) (st : State) →
-    Keeps (typed κ₂ proofs.view.Kinds.ps) (proofs.view.Reads.Post κ₂) (st, (i, (j, refs l r g)))
+    (i j : ℕ) (l r g : Words) (st : State) →
+    Keeps (typed κ₂ proofs.view.Kinds.ps) (proofs.view.Reads.Post κ₂) (st, (i, (j, lends l r g)))
     (ref (f i j (l .list) (r .list) (g .list) st))
 
 abbrev pub PairPromise : (ℕ → ℕ → ℕ → List ℕ → List ℕ → List ℕ → State → List ℕ) → Type 0
 PairPromise f =
-    (i j key : ℕ) (l r g : Slice) (st : State) →
-    Keeps (typed κ₂ proofs.pair.Kinds.ps) (proofs.pair.Reads.Post κ₂) (st, (i, (j, (key, refs l r g))))
+    (i j key : ℕ) (l r g : Words) (st : State) →
+    Keeps (typed κ₂ proofs.pair.Kinds.ps) (proofs.pair.Reads.Post κ₂) (st, (i, (j, (key, lends l r g))))
     (ref (f i j key (l .list) (r .list) (g .list) st))
 
 -- ---- the rules keep them: no promise is false of every program

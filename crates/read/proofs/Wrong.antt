@@ -31,8 +31,9 @@ use Rattle.read.specs.Admission.{row, column, entry}
 use Rattle.read.specs.Handles.{smallest, handleSigns, bumped, withDue, loaded, entered, wentOn, released, copyOf}
 use Rattle.read.specs.Calls.{slotAt, withSlot, refusal, Lent, lent, handleReply, firstFree, handleRule, createRule, viewRule, pairRule, startRule}
 use Rattle.table.proofs.Computes.{apart}
+use Rattle.table.proofs.Contracts.{Words, slice}
 use Rattle.read.proofs.Computes.{rules}
-use Rattle.read.proofs.Promises.{Slice, slice, RowPromise, EntryPromise, ColumnPromise, FirstGuardPromise, IsOpenPromise}
+use Rattle.read.proofs.Promises.{RowPromise, EntryPromise, ColumnPromise, FirstGuardPromise, IsOpenPromise}
 use Rattle.read.proofs.Promises.{AnyOpenPromise, AllOpenPromise, IsDuePromise, IsLoadPromise, NoSlotPromise, NewSlotPromise}
 use Rattle.read.proofs.Promises.{FreedPromise, EnteredPromise, WentOnPromise, ReleasedPromise, SignsPromise, GuardedCopyPromise}
 use Rattle.read.proofs.Promises.{HandlePromise, EitherPromise, SmallestPromise, LocksPromise, NullsPromise, SamePromise}
@@ -64,21 +65,21 @@ opens j s = bit (isOpen (s .guards) j)
 abbrev copyWith : List ℕ → List ℕ
 copyWith ws = ws ++ replicate (words - length ws) 0
 
-abbrev none : Slice
+abbrev none : Words
 none = slice (copyWith []) refl
 
 -- key 7 has another count on each side
-abbrev left7 : Slice
+abbrev left7 : Words
 left7 = slice (copyWith (1 ∷ 0 ∷ 7 ∷ 3 ∷ [])) refl
 
-abbrev right7 : Slice
+abbrev right7 : Words
 right7 = slice (copyWith (1 ∷ 0 ∷ 7 ∷ 4 ∷ [])) refl
 
 -- an empty log, and a slice of no words
-abbrev noLog : Slice
+abbrev noLog : Words
 noLog = slice (replicate logWords 0) refl
 
-abbrev noWords : Slice
+abbrev noWords : Words
 noWords = slice [] refl
 
 -- guards on the left and on the right copy

@@ -15,4 +15,6 @@ pub mod CopyMap
 pub mod CopyBelow
 pub mod Determined
 pub mod Computes
+pub mod Contracts
+pub mod Promises
 pub mod Wrong

@@ -1,7 +1,8 @@
--- Wrong programs, as definitions on lists, and for each a proof that the promise is false of it: one call where the two differ.
+-- Wrong programs, as definitions on lists, and for each a proof that the contract's promise (`Promises`) is false of it: one call, on
+-- values that the source's types have, where what the program does wrong is read off.
 use Prim.Native.Nat.{ℕ, zero, suc, _+_, _-_, _*_, _^_, _%_}
 use mathlib.Core.Path.{_≡_, refl}
-use mathlib.Core.Bool.{Bool, true, false, _&&_, _||_}
+use mathlib.Core.Bool.{Bool, true, false, not, _&&_, _||_}
 use mathlib.Core.List.{List, [], _∷_, _++_}
 use lib.ListN.{length, getD, take, drop, set, replicate}
 use lib.Dec.{eqb, leb, ltb}
@@ -9,43 +10,11 @@ use Rattle.table.specs.declared.Answer.{Answer}
 use Rattle.table.specs.declared.Answer.the-variants.{Done, Length, Broken, Operation}
 use Rattle.table.specs.Answers.{number}
 use Rattle.table.specs.Seek.{seek}
-use Rattle.table.specs.Copy.{pairs, words, entries, spill, keyAt, countAt, usedOf, pairOf, placeOf, present, opened, closed, inserted, placed, added, dropped, removed, zeros, lawful, fitness, fits, Out, applyRule, lookRule, usedRule, closeRule}
+use Rattle.table.specs.Copy.{pairs, words, entries, spill, keyAt, countAt, usedOf, pairOf, placeOf, present, opened, closed, inserted, placed, added, dropped, removed, zeros, lawful, fits, Out, applyRule, lookRule}
 use Rattle.table.proofs.Computes.{rules, apart}
-
--- ---- the promises, of any program
-
-abbrev NumberPromise : (Answer → ℕ) → Type 0
-NumberPromise f = (a : Answer) → f a ≡ number a
-
-abbrev FitPromise : (List ℕ → Answer) → Type 0
-FitPromise f = (w : List ℕ) → f w ≡ fitness w
-
-abbrev LawfulPromise : (ℕ → ℕ → ℕ → Bool) → Type 0
-LawfulPromise f = (kind key amount : ℕ) → f kind key amount ≡ lawful kind key amount
-
-abbrev ZeroPromise : (List ℕ → List ℕ) → Type 0
-ZeroPromise f = (w : List ℕ) → f w ≡ zeros w
-
-abbrev ClosePromise : (ℕ → ℕ → List ℕ → List ℕ) → Type 0
-ClosePromise f = (g m : ℕ) (p : List ℕ) → f g m p ≡ closeRule g m p
-
-abbrev ApplyPromise : (ℕ → ℕ → ℕ → List ℕ → Out) → Type 0
-ApplyPromise f = (kind key amount : ℕ) (w : List ℕ) → f kind key amount w ≡ applyRule kind key amount w
-
-abbrev AddPromise : (ℕ → ℕ → List ℕ → Out) → Type 0
-AddPromise f = (key amount : ℕ) (w : List ℕ) → f key amount w ≡ applyRule 1 key amount w
-
-abbrev DropPromise : (ℕ → List ℕ → Out) → Type 0
-DropPromise f = (key : ℕ) (w : List ℕ) → f key w ≡ applyRule 2 key 0 w
-
-abbrev ClearPromise : (List ℕ → Out) → Type 0
-ClearPromise f = (w : List ℕ) → f w ≡ applyRule 3 0 0 w
-
-abbrev LookPromise : (ℕ → List ℕ → List ℕ) → Type 0
-LookPromise f = (key : ℕ) (w : List ℕ) → f key w ≡ lookRule key w
-
-abbrev UsedPromise : (List ℕ → List ℕ) → Type 0
-UsedPromise f = (w : List ℕ) → f w ≡ usedRule w
+use Rattle.table.proofs.Contracts.{below, Words, slice}
+use Rattle.table.proofs.Promises.{NumberPromise, LawfulPromise, FitPromise, LookPromise, UsedPromise, ZeroPromise}
+use Rattle.table.proofs.Promises.{ClosePromise, ApplyPromise, AddPromise, DropPromise, ClearPromise}
 
 -- ---- what the witnesses are made of
 
@@ -53,12 +22,39 @@ UsedPromise f = (w : List ℕ) → f w ≡ usedRule w
 abbrev copyOf : List ℕ → List ℕ
 copyOf ws = ws ++ replicate (words - length ws) 0
 
--- a word of the copy that a call leaves, and its answer's number
+abbrev copy : (ws : List ℕ) → below 64 (copyOf ws) ≡ true → Words
+copy ws h = slice (copyOf ws) h
+
+-- a copy with no pairs, with one, and with two that have the same key
+abbrev none : Words
+none = copy [] refl
+
+abbrev seven : Words
+seven = copy (1 ∷ 0 ∷ 7 ∷ 3 ∷ []) refl
+
+abbrev twice : Words
+twice = copy (2 ∷ 0 ∷ 7 ∷ 3 ∷ 7 ∷ 4 ∷ []) refl
+
+-- a slice of two words
+abbrev two : Words
+two = slice (4 ∷ 5 ∷ []) refl
+
+-- what is read off a result: a word, or one of the copy that a call leaves; its answer's number; a bit; a number itself
+abbrev wordAt : ℕ → List ℕ → ℕ
+wordAt i w = getD w i 0
+
 abbrev word : ℕ → Out → ℕ
-word i o = getD (o .copy) i 0
+word i o = wordAt i (o .copy)
 
 abbrev answer : Out → ℕ
 answer o = number (o .answer)
+
+abbrev bit : Bool → ℕ
+bit true = 1
+bit false = 0
+
+abbrev itself : ℕ → ℕ
+itself n = n
 
 -- a call that is refused as the rule has it, with another effect
 abbrev calling : (List ℕ → List ℕ) → ℕ → ℕ → ℕ → List ℕ → Out
@@ -82,14 +78,14 @@ abbrev allDone : Answer → ℕ
 allDone a = 0
 
 allDone-wrong : NumberPromise allDone → ⊥
-allDone-wrong h = apart (λ n. n) refl (h Broken)
+allDone-wrong h = apart itself refl (h Broken refl)
 
 -- counted from 1
 abbrev fromOne : Answer → ℕ
 fromOne a = suc (number a)
 
 fromOne-wrong : NumberPromise fromOne → ⊥
-fromOne-wrong h = apart (λ n. n) refl (h Done)
+fromOne-wrong h = apart itself refl (h Done refl)
 
 -- ---- fit
 
@@ -99,7 +95,7 @@ oneMore w = elim (eqb (length w) words) [ true ↦ elim (leb (entries w) (pairs 
 
 oneMore-wrong : FitPromise oneMore → ⊥
 unfolding rules
-oneMore-wrong h = apart number refl (h (copyOf (513 ∷ [])))
+oneMore-wrong h = apart number refl (h (copy (513 ∷ []) refl) refl)
 
 -- any length passes
 abbrev anyLength : List ℕ → Answer
@@ -107,21 +103,17 @@ anyLength w = elim (leb (entries w) pairs) [ true ↦ Done | false ↦ Broken ]
 
 anyLength-wrong : FitPromise anyLength → ⊥
 unfolding rules
-anyLength-wrong h = apart number refl (h (copyOf [] ++ (0 ∷ [])))
+anyLength-wrong h = apart number refl (h (slice (copyOf [] ++ (0 ∷ [])) refl) refl)
 
--- nothing passes
+-- every copy is broken
 abbrev noneFit : List ℕ → Answer
 noneFit w = Broken
 
 noneFit-wrong : FitPromise noneFit → ⊥
 unfolding rules
-noneFit-wrong h = apart number refl (h (copyOf []))
+noneFit-wrong h = apart number refl (h none refl)
 
 -- ---- lawful
-
-abbrev bit : Bool → ℕ
-bit true = 1
-bit false = 0
 
 -- ADD of 0 passes
 abbrev addsNothing : ℕ → ℕ → ℕ → Bool
@@ -129,7 +121,7 @@ addsNothing kind key amount = elim (eqb kind 1) [ true ↦ true | false ↦ lawf
 
 addsNothing-wrong : LawfulPromise addsNothing → ⊥
 unfolding rules
-addsNothing-wrong h = apart bit refl (h 1 7 0)
+addsNothing-wrong h = apart bit refl (h 1 7 0 refl)
 
 -- CLEAR passes with a key
 abbrev clearsKey : ℕ → ℕ → ℕ → Bool
@@ -137,7 +129,7 @@ clearsKey kind key amount = elim (eqb kind 3) [ true ↦ eqb amount 0 | false �
 
 clearsKey-wrong : LawfulPromise clearsKey → ⊥
 unfolding rules
-clearsKey-wrong h = apart bit refl (h 3 7 0)
+clearsKey-wrong h = apart bit refl (h 3 7 0 refl)
 
 -- a fourth kind passes
 abbrev fourthKind : ℕ → ℕ → ℕ → Bool
@@ -145,7 +137,7 @@ fourthKind kind key amount = elim (eqb kind 4) [ true ↦ true | false ↦ lawfu
 
 fourthKind-wrong : LawfulPromise fourthKind → ⊥
 unfolding rules
-fourthKind-wrong h = apart bit refl (h 4 0 0)
+fourthKind-wrong h = apart bit refl (h 4 0 0 refl)
 
 -- nothing passes
 abbrev noneLawful : ℕ → ℕ → ℕ → Bool
@@ -153,7 +145,7 @@ noneLawful kind key amount = false
 
 noneLawful-wrong : LawfulPromise noneLawful → ⊥
 unfolding rules
-noneLawful-wrong h = apart bit refl (h 2 7 0)
+noneLawful-wrong h = apart bit refl (h 2 7 0 refl)
 
 -- ---- zero
 
@@ -163,7 +155,7 @@ butLast w = replicate (length w - 1) 0 ++ drop (length w - 1) w
 
 butLast-wrong : ZeroPromise butLast → ⊥
 unfolding rules
-butLast-wrong h = apart (λ p. getD p 2 0) refl (h (4 ∷ 5 ∷ 6 ∷ []))
+butLast-wrong h = apart (wordAt 1) refl (h two refl)
 
 -- every word is left
 abbrev leaves : List ℕ → List ℕ
@@ -171,7 +163,7 @@ leaves w = w
 
 leaves-wrong : ZeroPromise leaves → ⊥
 unfolding rules
-leaves-wrong h = apart (λ p. getD p 0 0) refl (h (4 ∷ []))
+leaves-wrong h = apart (wordAt 0) refl (h two refl)
 
 -- ---- close_gap
 
@@ -181,7 +173,7 @@ leavesGap g m p = elim (leb (g + m) (length p)) [ true ↦ take m (drop g p) ++ 
 
 leavesGap-wrong : ClosePromise leavesGap → ⊥
 unfolding rules
-leavesGap-wrong h = apart (λ p. getD p 1 0) refl (h 1 1 (4 ∷ 5 ∷ []))
+leavesGap-wrong h = apart (wordAt 1) refl (h 1 1 two refl)
 
 -- the gap stays
 abbrev gapStays : ℕ → ℕ → List ℕ → List ℕ
@@ -189,15 +181,15 @@ gapStays g m p = p
 
 gapStays-wrong : ClosePromise gapStays → ⊥
 unfolding rules
-gapStays-wrong h = apart (λ p. getD p 0 0) refl (h 1 1 (4 ∷ 5 ∷ []))
+gapStays-wrong h = apart (wordAt 0) refl (h 1 1 two refl)
 
--- words move where there is no room for both parts
+-- words move where there is no room for both parts, as many as there are
 abbrev noRoom : ℕ → ℕ → List ℕ → List ℕ
-noRoom g m p = closed g m p
+noRoom g m p = take (length p) (closed g m p)
 
 noRoom-wrong : ClosePromise noRoom → ⊥
 unfolding rules
-noRoom-wrong h = apart (λ p. getD p 0 0) refl (h 1 2 (4 ∷ 5 ∷ []))
+noRoom-wrong h = apart (wordAt 0) refl (h 1 2 two refl)
 
 -- all behind the gap moves down, and not the m words alone
 abbrev movesRest : ℕ → ℕ → List ℕ → List ℕ
@@ -205,7 +197,7 @@ movesRest g m p = elim (leb (g + m) (length p)) [ true ↦ closed g (length p - 
 
 movesRest-wrong : ClosePromise movesRest → ⊥
 unfolding rules
-movesRest-wrong h = apart (λ p. getD p 1 0) refl (h 1 1 (4 ∷ 5 ∷ 6 ∷ []))
+movesRest-wrong h = apart (wordAt 1) refl (h 1 1 (slice (4 ∷ 5 ∷ 6 ∷ []) refl) refl)
 
 -- ---- apply
 
@@ -215,15 +207,15 @@ refusesAll kind key amount w = record { answer = Operation; copy = w }
 
 refusesAll-wrong : ApplyPromise refusesAll → ⊥
 unfolding rules
-refusesAll-wrong h = apart answer refl (h 1 7 3 (copyOf []))
+refusesAll-wrong h = apart answer refl (h 1 7 3 none refl)
 
--- every call is done, with nothing changed
+-- every call that is not refused is done, with nothing changed
 abbrev doesNothing : ℕ → ℕ → ℕ → List ℕ → Out
 doesNothing kind key amount w = calling (λ v. v) kind key amount w
 
 doesNothing-wrong : ApplyPromise doesNothing → ⊥
 unfolding rules
-doesNothing-wrong h = apart (word 0) refl (h 1 7 3 (copyOf []))
+doesNothing-wrong h = apart (word 0) refl (h 1 7 3 none refl)
 
 -- the operation is judged before the copy
 abbrev operationFirst : ℕ → ℕ → ℕ → List ℕ → Out
@@ -232,16 +224,17 @@ operationFirst kind key amount w =
 
 operationFirst-wrong : ApplyPromise operationFirst → ⊥
 unfolding rules
-operationFirst-wrong h = apart answer refl (h 1 7 0 [])
+operationFirst-wrong h = apart answer refl (h 1 7 0 two refl)
 
 -- a refused operation clears the copy
 abbrev refusalClears : ℕ → ℕ → ℕ → List ℕ → Out
 refusalClears kind key amount w =
-    elim (lawful kind key amount) [ true ↦ applyRule kind key amount w | false ↦ record { answer = Operation; copy = zeros w } ]
+    elim (fits w && not (lawful kind key amount))
+    [ true ↦ record { answer = Operation; copy = zeros w } | false ↦ applyRule kind key amount w ]
 
 refusalClears-wrong : ApplyPromise refusalClears → ⊥
 unfolding rules
-refusalClears-wrong h = apart (word 0) refl (h 1 7 0 (copyOf (1 ∷ [])))
+refusalClears-wrong h = apart (word 0) refl (h 1 7 0 seven refl)
 
 -- ---- add
 
@@ -255,46 +248,43 @@ noTop key amount =
 
 noTop-wrong : AddPromise noTop → ⊥
 unfolding rules
-noTop-wrong h = apart (word 3) refl (h 7 5 (copyOf (1 ∷ 0 ∷ 7 ∷ (2 ^ 64 - 2) ∷ [])))
+noTop-wrong h = apart (word 3) refl (h 7 5 (copy (1 ∷ 0 ∷ 7 ∷ (2 ^ 64 - 2) ∷ []) refl) refl)
+
+-- another place for a new pair, where there is room for it
+abbrev placing : (ℕ → ℕ → List ℕ → List ℕ) → ℕ → ℕ → List ℕ → Out
+placing place key amount =
+    calling
+    (λ w. elim (not (present key w) && ltb (entries w) pairs) [ true ↦ place key amount w | false ↦ added key amount w ])
+    1 key amount
 
 -- all words behind the place move up, and not the used ones alone
 abbrev movesAll : ℕ → ℕ → List ℕ → Out
-movesAll key amount =
-    calling
-    (λ w. elim (present key w) [
-      | true ↦ added key amount w
-      | false ↦
-          let at = 2 * placeOf key w + 2 in
-          set (take at w ++ opened (length w - at - 2) key amount (drop at w)) 0 (entries w + 1)
-    ])
-    1 key amount
+movesAll =
+    placing
+    (λ key amount w.
+    let at = 2 * placeOf key w + 2 in
+    set (take at w ++ opened (length w - at - 2) key amount (drop at w)) 0 (entries w + 1))
 
 movesAll-wrong : AddPromise movesAll → ⊥
 unfolding rules
-movesAll-wrong h = apart (word 6) refl (h 3 1 (copyOf (1 ∷ 0 ∷ 5 ∷ 1 ∷ 8 ∷ 9 ∷ [])))
+movesAll-wrong h = apart (word 6) refl (h 3 1 (copy (1 ∷ 0 ∷ 5 ∷ 1 ∷ 8 ∷ 9 ∷ []) refl) refl)
 
 -- the new pair stands behind the last smaller key: the right place in a copy that is in order, and not in others
 abbrev behindSmaller : ℕ → ℕ → List ℕ → Out
-behindSmaller key amount =
-    calling
-    (λ w. elim (present key w) [
-      | true ↦ added key amount w
-      | false ↦ inserted (behindLast (λ i. ltb (keyAt w i) key) (entries w)) key amount w
-    ])
-    1 key amount
+behindSmaller =
+    placing (λ key amount w. inserted (behindLast (λ i. ltb (keyAt w i) key) (entries w)) key amount w)
 
 behindSmaller-wrong : AddPromise behindSmaller → ⊥
 unfolding rules
-behindSmaller-wrong h = apart (word 2) refl (h 3 1 (copyOf (2 ∷ 0 ∷ 5 ∷ 1 ∷ 1 ∷ 1 ∷ [])))
+behindSmaller-wrong h = apart (word 2) refl (h 3 1 (copy (2 ∷ 0 ∷ 5 ∷ 1 ∷ 1 ∷ 1 ∷ []) refl) refl)
 
 -- the new pair always stands at the end
 abbrev atEnd : ℕ → ℕ → List ℕ → Out
-atEnd key amount =
-    calling (λ w. elim (present key w) [ true ↦ added key amount w | false ↦ inserted (entries w) key amount w ]) 1 key amount
+atEnd = placing (λ key amount w. inserted (entries w) key amount w)
 
 atEnd-wrong : AddPromise atEnd → ⊥
 unfolding rules
-atEnd-wrong h = apart (word 2) refl (h 3 1 (copyOf (1 ∷ 0 ∷ 5 ∷ 1 ∷ [])))
+atEnd-wrong h = apart (word 2) refl (h 3 1 seven refl)
 
 -- a full copy loses the key without a word
 abbrev noSpill : ℕ → ℕ → List ℕ → Out
@@ -303,7 +293,7 @@ noSpill key amount =
 
 noSpill-wrong : AddPromise noSpill → ⊥
 unfolding rules
-noSpill-wrong h = apart (word 1) refl (h 7 1 (copyOf (512 ∷ [])))
+noSpill-wrong h = apart (word 1) refl (h 7 1 (copy (512 ∷ []) refl) refl)
 
 -- ---- drop
 
@@ -322,7 +312,7 @@ leavesPlace key =
 
 leavesPlace-wrong : DropPromise leavesPlace → ⊥
 unfolding rules
-leavesPlace-wrong h = apart (word 2) refl (h 7 (copyOf (1 ∷ 0 ∷ 7 ∷ 3 ∷ [])))
+leavesPlace-wrong h = apart (word 2) refl (h 7 seven refl)
 
 -- of two pairs with the key the last goes
 abbrev dropsLast : ℕ → List ℕ → Out
@@ -332,7 +322,7 @@ dropsLast key =
 
 dropsLast-wrong : DropPromise dropsLast → ⊥
 unfolding rules
-dropsLast-wrong h = apart (word 3) refl (h 7 (copyOf (2 ∷ 0 ∷ 7 ∷ 3 ∷ 7 ∷ 4 ∷ [])))
+dropsLast-wrong h = apart (word 3) refl (h 7 twice refl)
 
 -- the pair goes and the entry count stays
 abbrev keepsCount : ℕ → List ℕ → Out
@@ -340,7 +330,7 @@ keepsCount key = calling (λ w. set (dropped key w) 0 (entries w)) 2 key 0
 
 keepsCount-wrong : DropPromise keepsCount → ⊥
 unfolding rules
-keepsCount-wrong h = apart (word 0) refl (h 7 (copyOf (1 ∷ 0 ∷ 7 ∷ 3 ∷ [])))
+keepsCount-wrong h = apart (word 0) refl (h 7 seven refl)
 
 -- ---- clear
 
@@ -350,7 +340,7 @@ clearsUsed = calling (λ w. zeros (usedOf w) ++ drop (2 * entries w + 2) w) 3 0 
 
 clearsUsed-wrong : ClearPromise clearsUsed → ⊥
 unfolding rules
-clearsUsed-wrong h = apart (word 2) refl (h (copyOf (0 ∷ 0 ∷ 7 ∷ [])))
+clearsUsed-wrong h = apart (word 2) refl (h (copy (0 ∷ 0 ∷ 7 ∷ []) refl) refl)
 
 -- the spill stays
 abbrev keepsSpill : List ℕ → Out
@@ -358,7 +348,7 @@ keepsSpill = calling (λ w. set (zeros w) 1 (spill w)) 3 0 0
 
 keepsSpill-wrong : ClearPromise keepsSpill → ⊥
 unfolding rules
-keepsSpill-wrong h = apart (word 1) refl (h (copyOf (0 ∷ 5 ∷ [])))
+keepsSpill-wrong h = apart (word 1) refl (h (copy (0 ∷ 5 ∷ []) refl) refl)
 
 -- ---- look_up
 
@@ -370,7 +360,7 @@ looksLast key w =
 
 looksLast-wrong : LookPromise looksLast → ⊥
 unfolding rules
-looksLast-wrong h = apart (λ p. getD p 1 0) refl (h 7 (copyOf (2 ∷ 0 ∷ 7 ∷ 3 ∷ 7 ∷ 4 ∷ [])))
+looksLast-wrong h = apart (wordAt 1) refl (h 7 twice refl)
 
 -- no key is ever found
 abbrev looksNowhere : ℕ → List ℕ → List ℕ
@@ -378,7 +368,7 @@ looksNowhere key w = []
 
 looksNowhere-wrong : LookPromise looksNowhere → ⊥
 unfolding rules
-looksNowhere-wrong h = apart length refl (h 7 (copyOf (1 ∷ 0 ∷ 7 ∷ 3 ∷ [])))
+looksNowhere-wrong h = apart length refl (h 7 seven refl)
 
 -- pairs behind the used part are found too
 abbrev looksBehind : ℕ → List ℕ → List ℕ
@@ -387,7 +377,7 @@ looksBehind key w =
 
 looksBehind-wrong : LookPromise looksBehind → ⊥
 unfolding rules
-looksBehind-wrong h = apart length refl (h 7 (copyOf (0 ∷ 0 ∷ 7 ∷ 3 ∷ [])))
+looksBehind-wrong h = apart length refl (h 7 (copy (0 ∷ 0 ∷ 7 ∷ 3 ∷ []) refl) refl)
 
 -- the count alone is shown
 abbrev looksCount : ℕ → List ℕ → List ℕ
@@ -395,17 +385,17 @@ looksCount key w = drop 1 (lookRule key w)
 
 looksCount-wrong : LookPromise looksCount → ⊥
 unfolding rules
-looksCount-wrong h = apart length refl (h 7 (copyOf (1 ∷ 0 ∷ 7 ∷ 3 ∷ [])))
+looksCount-wrong h = apart length refl (h 7 seven refl)
 
 -- ---- used
 
--- a pair is missing
+-- the last pair is missing
 abbrev onePairShort : List ℕ → List ℕ
-onePairShort w = elim (fits w) [ true ↦ take (2 * entries w) w | false ↦ [] ]
+onePairShort w = elim (fits w) [ true ↦ take (2 * (entries w - 1) + 2) w | false ↦ [] ]
 
 onePairShort-wrong : UsedPromise onePairShort → ⊥
 unfolding rules
-onePairShort-wrong h = apart length refl (h (copyOf (1 ∷ 0 ∷ 7 ∷ 3 ∷ [])))
+onePairShort-wrong h = apart length refl (h seven refl)
 
 -- the whole copy is shown
 abbrev showsAll : List ℕ → List ℕ
@@ -413,7 +403,7 @@ showsAll w = elim (fits w) [ true ↦ w | false ↦ [] ]
 
 showsAll-wrong : UsedPromise showsAll → ⊥
 unfolding rules
-showsAll-wrong h = apart length refl (h (copyOf (1 ∷ 0 ∷ 7 ∷ 3 ∷ [])))
+showsAll-wrong h = apart length refl (h seven refl)
 
 -- the empty table is shown always
 abbrev showsEmpty : List ℕ → List ℕ
@@ -421,4 +411,4 @@ showsEmpty w = elim (fits w) [ true ↦ 0 ∷ 0 ∷ [] | false ↦ [] ]
 
 showsEmpty-wrong : UsedPromise showsEmpty → ⊥
 unfolding rules
-showsEmpty-wrong h = apart length refl (h (copyOf (1 ∷ 0 ∷ 7 ∷ 3 ∷ [])))
+showsEmpty-wrong h = apart length refl (h seven refl)

@@ -17,4 +17,5 @@ pub mod Turns
 pub mod Callings
 pub mod Determined
 pub mod Computes
+pub mod Promises
 pub mod Wrong

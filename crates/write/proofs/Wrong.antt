@@ -1,6 +1,7 @@
--- Wrong programs, as definitions on the rules' values, and for each a proof that the promise is false of it: one call where the two differ.
+-- Wrong programs, as definitions on the rules' values, and for each a proof that the contract's promise (`Promises`) is false of it: one
+-- call, on values that the source's types have, where what the program does wrong is read off.
 use Prim.Native.Nat.{ℕ, zero, suc, _+_, _-_, _%_, _^_}
-use mathlib.Core.Path.{_≡_, refl}
+use mathlib.Core.Path.{refl}
 use mathlib.Core.Bool.{Bool, true, false, not, _&&_, _||_}
 use mathlib.Core.List.{List, [], _∷_, _++_}
 use lib.Dec.{eqb, ltb, leb}
@@ -11,58 +12,30 @@ use Rattle.table.specs.declared.Answer.the-variants as answer
 use Rattle.read.specs.declared.Slot.{Slot}
 use Rattle.read.specs.declared.Due.the-variants.{Nothing}
 use Rattle.read.specs.declared.Phase.{Phase}
-use Rattle.read.specs.declared.Phase.the-variants.{Idle, Begin, Poll, Copy, Drain, Keep, Swap, Snap, Null, Lock, LastSnap, LastPoll, Finish, Gone}
+use Rattle.read.specs.declared.Phase.the-variants.{Idle, Begin, Poll, Copy, Drain, Swap, Snap, Lock, Finish}
 use Rattle.read.specs.declared.Job.{Job}
 use Rattle.read.specs.declared.Job.the-variants.{Publish, Try, TakeFirst}
 use Rattle.read.specs.declared.Control.{Control}
 use Rattle.read.specs.declared.Verdict.the-variants.{Admitted, Refused}
 use Rattle.read.specs.declared.State.{State}
 use Rattle.read.specs.declared.Reply.{Reply}
-use Rattle.read.specs.Machine.{slotCount, logRoom, logWords, noGuards, noSlot, newSlot, locks, nulls, judged, fresh}
+use Rattle.read.specs.Machine.{slotCount, logRoom, logWords, noGuards, noSlot, newSlot, underway, locks, nulls, judged, fresh}
 use Rattle.read.specs.Admission.{row}
 use Rattle.read.specs.Handles.{smallest, freed, copyOf, bit}
 use Rattle.read.specs.Calls.{Lent, lent, slotAt, refusal}
 use Rattle.write.specs.declared.Moved.{Moved}
 use Rattle.write.specs.declared.Opening.{Opening}
 use Rattle.write.specs.declared.Opening.the-variants as opening
-use Rattle.write.specs.declared.Call.{Call}
 use Rattle.write.specs.declared.Call.the-variants as call
 use Rattle.write.specs.Steps.{at, withJob, withLog, swappedOver, draining, polling, beginning, lastPolling, holds, moved, refused, stopped, ofLeft, ofRight, operated, logApplied, over, unlogged, stepAt, place}
-use Rattle.write.specs.Begins.{writerSigns, madeAtOnce, appendFirst, appended, appendOn, columnOf, begun, value, opened, openOn}
-use Rattle.write.specs.Runs.{snapAt, lift, stepOn, left, goOn}
+use Rattle.write.specs.Begins.{writerSigns, madeAtOnce, appendFirst, appended, appendOn, columnOf, begun, value, opened}
+use Rattle.write.specs.Runs.{snapAt, putBack, lift, stepOn, left, goOn, steps}
 use Rattle.write.specs.Machine.{going, callRule}
 use Rattle.table.proofs.Computes.{apart}
+use Rattle.table.proofs.Contracts.{Words, slice}
 use Rattle.write.proofs.Computes.{rules}
-
--- ---- the promises, of any program
-
--- on the control part, one slot with its snapshot, and the lent words
-abbrev Part : Type 0
-Part = Control → Slot → ℕ → List ℕ → List ℕ → List ℕ → Lent Moved
-
--- on the whole state and the lent words
-abbrev Whole : Type 0
-Whole = State → List ℕ → List ℕ → List ℕ → Lent Reply
-
-abbrev HoldsPromise : (Slot → ℕ → Bool) → Type 0
-HoldsPromise f = (s : Slot) (e : ℕ) → f s e ≡ holds s e
-
-abbrev PlacePromise : (Phase → ℕ) → Type 0
-PlacePromise f = (p : Phase) → f p ≡ place p
-
-abbrev AdvancePromise : Part → Type 0
-AdvancePromise f = (c : Control) (s : Slot) (e : ℕ) (l r g : List ℕ) → f c s e l r g ≡ stepAt (c .phase) c s e l r g
-
-abbrev AppendOnPromise : (ℕ → ℕ → ℕ → Part) → Type 0
-AppendOnPromise f =
-    (kind key amount : ℕ) (c : Control) (s : Slot) (e : ℕ) (l r g : List ℕ) → f kind key amount c s e l r g ≡ appendOn kind key amount c s e l r g
-
-abbrev OpenOnPromise : (Opening → Control → Slot → ℕ → Moved) → Type 0
-OpenOnPromise f = (o : Opening) (c : Control) (s : Slot) (e : ℕ) → f o c s e ≡ openOn o c s e
-
--- append, publish, try, flush, take, step and run
-abbrev CallPromise : Call → Whole → Type 0
-CallPromise k f = (st : State) (l r g : List ℕ) → f st l r g ≡ callRule k st l r g
+use Rattle.write.proofs.Promises.{Part, Whole, Beginning, HoldsPromise, PlacePromise, OpenOnPromise, AdvancePromise, AppendOnPromise}
+use Rattle.write.proofs.Promises.{AppendPromise, StepPromise, RunPromise, PublishPromise, TryPromise, FlushPromise, TakePromise}
 
 -- ---- what the witnesses are made of
 
@@ -90,11 +63,12 @@ abbrev with1 : Control → Slot → ℕ → State
 with1 c s e =
     record { control = c; slots = newSlot ∷ s ∷ replicate (slotCount - 2) noSlot; snapshots = 0 ∷ e ∷ replicate (slotCount - 2) 0 }
 
-abbrev blank : List ℕ
-blank = replicate words 0
+-- a copy with no pairs, and one that has key 7
+abbrev blank : Words
+blank = slice (replicate words 0) refl
 
-abbrev blankLog : List ℕ
-blankLog = replicate logWords 0
+abbrev seven : Words
+seven = slice (1 ∷ 0 ∷ 7 ∷ 3 ∷ replicate (words - 4) 0) refl
 
 -- a log of ADDs of 1 to these keys
 abbrev adds : List ℕ → List ℕ
@@ -104,9 +78,21 @@ adds (k ∷ ks) = 1 ∷ k ∷ 1 ∷ adds ks
 abbrev logOf : List ℕ → List ℕ
 logOf ks = adds ks ++ replicate (logWords - length (adds ks)) 0
 
+abbrev blankLog : Words
+blankLog = slice (logOf []) refl
+
+abbrev log7 : Words
+log7 = slice (logOf (7 ∷ [])) refl
+
+abbrev fullLog : Words
+fullLog = slice (logOf (replicate logRoom 7)) refl
+
 -- what is read off a part, and off the whole
 abbrev movedTo : Lent Moved → ℕ
 movedTo o = row (o .made .control .phase)
+
+abbrev word0 : List ℕ → ℕ
+word0 w = getD w 0 0
 
 abbrev answered : Lent Reply → ℕ
 answered o = number (o .made .answer)
@@ -135,7 +121,7 @@ greater s e = s .used && (eqb (e % 2) 1 && leb (s .epoch) e)
 
 greater-wrong : HoldsPromise greater → ⊥
 unfolding rules
-greater-wrong h = apart bit refl (h (record { used = true; epoch = 0; guards = noGuards; due = Nothing }) (2 ^ 64 - 1))
+greater-wrong h = apart bit refl (h newSlot (2 ^ 64 - 1) refl)
 
 -- a free slot is waited for
 abbrev waitsForFree : Slot → ℕ → Bool
@@ -143,7 +129,7 @@ waitsForFree s e = eqb (e % 2) 1 && eqb e (s .epoch)
 
 waitsForFree-wrong : HoldsPromise waitsForFree → ⊥
 unfolding rules
-waitsForFree-wrong h = apart bit refl (h (freed inside) 1)
+waitsForFree-wrong h = apart bit refl (h (freed inside) 1 refl)
 
 -- an odd snapshot that is still the epoch passes
 abbrev passesOdd : Slot → ℕ → Bool
@@ -151,7 +137,7 @@ passesOdd s e = false
 
 passesOdd-wrong : HoldsPromise passesOdd → ⊥
 unfolding rules
-passesOdd-wrong h = apart bit refl (h inside 1)
+passesOdd-wrong h = apart bit refl (h inside 1 refl)
 
 -- every poll of a used slot is held
 abbrev holdsAll : Slot → ℕ → Bool
@@ -159,7 +145,7 @@ holdsAll s e = s .used
 
 holdsAll-wrong : HoldsPromise holdsAll → ⊥
 unfolding rules
-holdsAll-wrong h = apart bit refl (h newSlot 0)
+holdsAll-wrong h = apart bit refl (h newSlot 0 refl)
 
 -- ---- place
 
@@ -169,28 +155,15 @@ atZero p = 0
 
 atZero-wrong : PlacePromise atZero → ⊥
 unfolding rules
-atZero-wrong h = apart (λ n. n) refl (h (Poll 3))
+atZero-wrong h = apart (λ n. n) refl (h (Poll 3) refl)
 
--- a snapshot is taken of the slot behind
+-- a snapshot is taken of the next slot; behind the last, of slot 0
 abbrev behind : Phase → ℕ
-behind Idle = 0
-behind Begin = 0
-behind (Poll k) = k
-behind Copy = 0
-behind Drain = 0
-behind (Keep k) = 0
-behind Swap = 0
-behind (Snap k) = k + 1
-behind Null = 0
-behind Lock = 0
-behind (LastSnap k) = k + 1
-behind (LastPoll k) = k
-behind Finish = 0
-behind Gone = 0
+behind p = elim (eqb (row p) 7 || eqb (row p) 10) [ true ↦ (place p + 1) % slotCount | false ↦ place p ]
 
 behind-wrong : PlacePromise behind → ⊥
 unfolding rules
-behind-wrong h = apart (λ n. n) refl (h (Snap 3))
+behind-wrong h = apart (λ n. n) refl (h (Snap 3) refl)
 
 -- ---- advance
 
@@ -204,7 +177,7 @@ pollPasses = but 2 (λ c s e l r g. lent (moved (at (polling c (place (c .phase)
 
 pollPasses-wrong : AdvancePromise pollPasses → ⊥
 unfolding rules
-pollPasses-wrong h = apart (λ o. number (o .made .answer)) refl (h (standing (Poll 1) Publish false false 0 0) inside 1 [] [] [])
+pollPasses-wrong h = apart (λ o. number (o .made .answer)) refl (h (standing (Poll 1) Publish false false 0 0) inside 1 blank blank blankLog refl)
 
 -- a poll that is held, and moves on
 abbrev heldMovesOn : Part
@@ -212,11 +185,11 @@ heldMovesOn =
     but 2
     (λ c s e l r g.
     elim (holds s e)
-    [ true ↦ lent (refused answer.Held (at (polling c (place (c .phase) + 1)) c) s e) l r g | false ↦ stepAt (c .phase) c s e l r g ])
+    [ true ↦ lent (stopped (c .job) (at (polling c (place (c .phase) + 1)) c) s e) l r g | false ↦ stepAt (c .phase) c s e l r g ])
 
 heldMovesOn-wrong : AdvancePromise heldMovesOn → ⊥
 unfolding rules
-heldMovesOn-wrong h = apart (λ o. place (o .made .control .phase)) refl (h (standing (Poll 1) Publish false false 0 0) inside 1 [] [] [])
+heldMovesOn-wrong h = apart (λ o. place (o .made .control .phase)) refl (h (standing (Poll 1) Publish false false 0 0) inside 1 blank blank blankLog refl)
 
 -- a copying step after every publish: the copies are never said to be synchronised
 abbrev copiesAlways : Part
@@ -228,9 +201,9 @@ copiesAlways =
 
 copiesAlways-wrong : AdvancePromise copiesAlways → ⊥
 unfolding rules
-copiesAlways-wrong h = apart (λ o. bit (o .made .control .second)) refl (h (standing Copy Publish false true 0 0) newSlot 0 [] [] [])
+copiesAlways-wrong h = apart (λ o. bit (o .made .control .second)) refl (h (standing Copy Publish false true 0 0) newSlot 0 blank blank blankLog refl)
 
--- a drain that forgets the swap index
+-- a drain that leaves the swap index where it is
 abbrev keepsIndex : Part
 keepsIndex =
     but 4
@@ -242,7 +215,7 @@ keepsIndex =
 
 keepsIndex-wrong : AdvancePromise keepsIndex → ⊥
 unfolding rules
-keepsIndex-wrong h = apart movedTo refl (h (standing Drain Publish false false 1 1) newSlot 0 [] [] [])
+keepsIndex-wrong h = apart (λ o. o .made .control .swapped) refl (h (standing Drain Publish false false 1 1) newSlot 0 blank blank log7 refl)
 
 -- a drain that leaves the operation in the log
 abbrev drainsNothing : Part
@@ -254,8 +227,7 @@ drainsNothing =
 
 drainsNothing-wrong : AdvancePromise drainsNothing → ⊥
 unfolding rules
-drainsNothing-wrong h =
-    apart (λ o. getD (o .log) 0 0) refl (h (standing Drain Publish false false 1 1) newSlot 0 blank blank (logOf (7 ∷ [])))
+drainsNothing-wrong h = apart (λ o. word0 (o .log)) refl (h (standing Drain Publish false false 1 1) newSlot 0 blank blank log7 refl)
 
 -- a snapshot of a free slot
 abbrev snapsFree : Part
@@ -263,15 +235,15 @@ snapsFree = but 7 (λ c s e l r g. let o = stepAt (c .phase) c s e l r g in lent
 
 snapsFree-wrong : AdvancePromise snapsFree → ⊥
 unfolding rules
-snapsFree-wrong h = apart (λ o. o .made .snapshot) refl (h (standing (Snap 1) Publish false false 0 0) noSlot 1 [] [] [])
+snapsFree-wrong h = apart (λ o. o .made .snapshot) refl (h (standing (Snap 1) Publish false false 0 0) noSlot 1 blank blank blankLog refl)
 
--- a take that waits on the last publish's snapshots
+-- a take that takes no snapshots, and polls by the last publish's
 abbrev oldSnapshots : Part
 oldSnapshots = but 9 (λ c s e l r g. lent (moved (at (lastPolling 0) c) s e) l r g)
 
 oldSnapshots-wrong : AdvancePromise oldSnapshots → ⊥
 unfolding rules
-oldSnapshots-wrong h = apart movedTo refl (h (standing Lock TakeFirst false false 0 0) newSlot 0 [] [] [])
+oldSnapshots-wrong h = apart movedTo refl (h (standing Lock TakeFirst false false 0 0) newSlot 0 blank blank blankLog refl)
 
 -- a take that leaves the other copy as it is
 abbrev leavesCopy : Part
@@ -279,16 +251,17 @@ leavesCopy = but 12 (λ c s e l r g. lent (stepAt Finish c s e l r g .made) l r 
 
 leavesCopy-wrong : AdvancePromise leavesCopy → ⊥
 unfolding rules
-leavesCopy-wrong h =
-    apart (λ o. getD (o .right) 1 0) refl (h (standing Finish TakeFirst false false 0 0) newSlot 0 (5 ∷ 6 ∷ []) (7 ∷ 8 ∷ []) [])
+leavesCopy-wrong h = apart (λ o. word0 (o .right)) refl (h (standing Finish TakeFirst false false 0 0) newSlot 0 seven seven blankLog refl)
 
--- a machine that ignores steps
+-- a machine that answers a step, and changes nothing
 abbrev standsStill : Part
-standsStill c s e l r g = lent (moved c s e) l r g
+standsStill c s e l r g =
+    let m = stepAt (c .phase) c s e l r g .made in
+    lent (record { answer = m .answer; value = m .value; control = c; slot = s; snapshot = e }) l r g
 
 standsStill-wrong : AdvancePromise standsStill → ⊥
 unfolding rules
-standsStill-wrong h = apart movedTo refl (h (standing Begin TakeFirst true true 0 0) newSlot 0 [] [] [])
+standsStill-wrong h = apart movedTo refl (h (standing Begin TakeFirst true true 0 0) newSlot 0 blank blank blankLog refl)
 
 -- ---- append, on slot 0
 
@@ -308,7 +281,7 @@ epochStays =
 
 epochStays-wrong : AppendOnPromise epochStays → ⊥
 unfolding rules
-epochStays-wrong h = apart (λ o. o .made .slot .epoch) refl (h 1 7 3 (standing Idle Publish true true 0 0) newSlot 0 [] [] [])
+epochStays-wrong h = apart (λ o. o .made .slot .epoch) refl (h 1 7 3 (fresh .control) newSlot 0 blank blank blankLog refl)
 
 -- into the log while `first` too
 abbrev logsFirst : ℕ → ℕ → ℕ → Part
@@ -316,7 +289,7 @@ logsFirst = appendBy (appended false)
 
 logsFirst-wrong : AppendOnPromise logsFirst → ⊥
 unfolding rules
-logsFirst-wrong h = apart (λ o. o .made .control .length) refl (h 1 7 3 (standing Idle Publish true true 0 0) newSlot 0 [] [] [])
+logsFirst-wrong h = apart (λ o. word0 (o .log)) refl (h 1 7 3 (fresh .control) newSlot 0 blank blank blankLog refl)
 
 -- to the copy that is read
 abbrev toRead : ℕ → ℕ → ℕ → Part
@@ -332,114 +305,123 @@ toRead =
 
 toRead-wrong : AppendOnPromise toRead → ⊥
 unfolding rules
-toRead-wrong h = apart (λ o. getD (o .left) 0 0) refl (h 1 7 3 (standing Idle Publish true true 0 0) newSlot 0 blank blank [])
+toRead-wrong h = apart (λ o. word0 (o .left)) refl (h 1 7 3 (fresh .control) newSlot 0 blank blank blankLog refl)
 
 -- ---- publish, try, flush and take, on slot 0
 
-abbrev openBy : (Opening → Control → Slot → ℕ → Moved) → Opening → Control → Slot → ℕ → Moved
-openBy f o c s e =
-    elim (smallest (writerSigns (columnOf o) false false c s)) [ Admitted ↦ f o c s e | Refused a ↦ refused a c s e ]
+-- another effect, or judged by another control part and slot
+abbrev openBy : (Control → Slot → ℕ → Moved) → Control → Slot → Opening → Control → Slot → ℕ → Moved
+openBy f d t o c s e =
+    elim (smallest (writerSigns (columnOf o) false false d t)) [ Admitted ↦ f c s e | Refused a ↦ refused a c s e ]
 
 -- a guard of slot 0 does not refuse
 abbrev underGuards : Opening → Control → Slot → ℕ → Moved
-underGuards o c s e = openBy opened o c (record { used = s .used; epoch = s .epoch; guards = noGuards; due = s .due }) e
+underGuards o c s = openBy (opened o) c (record { used = s .used; epoch = s .epoch; guards = noGuards; due = s .due }) o c s
 
 underGuards-wrong : OpenOnPromise underGuards → ⊥
 unfolding rules
-underGuards-wrong h = apart (λ o. number (o .answer)) refl (h opening.Publish (standing Idle Publish false false 0 0) inside 0)
+underGuards-wrong h = apart (λ o. number (o .answer)) refl (h opening.Publish (standing Idle Publish false false 0 0) inside 0 refl)
 
 -- one call is begun over another
 abbrev overAnother : Opening → Control → Slot → ℕ → Moved
-overAnother o c s e = opened o c s e
+overAnother o c s = openBy (opened o) (elim (underway (c .phase)) [ true ↦ at Idle c | false ↦ c ]) s o c s
 
 overAnother-wrong : OpenOnPromise overAnother → ⊥
 unfolding rules
-overAnother-wrong h = apart (λ o. number (o .answer)) refl (h opening.Publish (standing Swap Publish false false 0 0) newSlot 0)
+overAnother-wrong h = apart (λ o. number (o .answer)) refl (h opening.Publish (standing Swap Publish false false 0 0) newSlot 0 refl)
 
 -- ---- the calls on the whole machine
 
 abbrev appends : (ℕ → ℕ → ℕ → Part) → ℕ → ℕ → ℕ → Whole
 appends f kind key amount = judging (λ st l r g. lift 0 st (f kind key amount (st .control) (slotAt st 0) (snapAt st 0) l r g))
 
-abbrev opens : Opening → (Control → Slot → ℕ → Moved) → Whole
-opens o f =
-    judging (λ st l r g. lift 0 st (lent (openBy (λ k c s e. f c s e) o (st .control) (slotAt st 0) (snapAt st 0)) l r g))
+abbrev opens : Opening → (Control → Slot → ℕ → Moved) → Beginning
+opens o f st l r g =
+    let c = st .control in
+    let s = slotAt st 0 in
+    elim (judged c l r g) [ Admitted ↦ putBack 0 st (openBy f c s o c s (snapAt st 0)) | Refused a ↦ refusal a st ]
 
 -- after the first publish
 abbrev later : State
 later = with1 (standing Idle Publish false true 0 0) noSlot 0
 
 -- append: the epoch stays
-append-epochStays-wrong : CallPromise (call.Append 1 7 3) (appends epochStays 1 7 3) → ⊥
+append-epochStays-wrong : AppendPromise (appends epochStays) → ⊥
 unfolding rules
-append-epochStays-wrong h = apart epoch0 refl (h fresh blank blank blankLog)
+append-epochStays-wrong h = apart epoch0 refl (h 1 7 3 fresh blank blank blankLog refl)
 
--- append: one more than there is room for
-abbrev oneMore : Whole
-oneMore = judging (λ st l r g. lift 0 st (lent (madeAtOnce (withLog (st .control .length + 1) (st .control .swapped) (st .control)) (slotAt st 0) 0) l r g))
+-- append: a full log takes one more, which is counted and lost
+abbrev oneMore : ℕ → ℕ → ℕ → Part
+oneMore kind key amount c s e l r g =
+    elim (not (c .first) && eqb (c .length) logRoom) [
+      | true ↦
+          elim (smallest (writerSigns 7 (not (lawful kind key amount)) false c s)) [
+            | Admitted ↦ lent (madeAtOnce (withLog (c .length + 1) (c .swapped) c) s e) l r g
+            | Refused a ↦ lent (refused a c s e) l r g
+          ]
+      | false ↦ appendOn kind key amount c s e l r g
+    ]
 
-append-oneMore-wrong : CallPromise (call.Append 1 7 3) oneMore → ⊥
+append-oneMore-wrong : AppendPromise (appends oneMore) → ⊥
 unfolding rules
-append-oneMore-wrong h =
-    apart answered refl (h (with1 (standing Idle Publish false false 256 0) noSlot 0) blank blank (logOf (replicate 256 7)))
+append-oneMore-wrong h = apart answered refl (h 1 7 3 (with1 (standing Idle Publish false false 256 0) noSlot 0) blank blank fullLog refl)
 
 -- publish: the swap at its beginning
-abbrev swapsAtOnce : Whole
-swapsAtOnce = opens opening.Publish (λ c s e. value 0 (begun (swappedOver c)) s e)
+abbrev swapsAtOnce : Beginning
+swapsAtOnce = opens opening.Publish (λ c s e. value 0 (swappedOver (begun c)) s e)
 
-swapsAtOnce-wrong : CallPromise (call.Open opening.Publish) swapsAtOnce → ⊥
+swapsAtOnce-wrong : PublishPromise swapsAtOnce → ⊥
 unfolding rules
-swapsAtOnce-wrong h = apart (λ o. bit (o .made .state .control .right)) refl (h later blank blank blankLog)
+swapsAtOnce-wrong h = apart (λ o. bit (o .made .state .control .right)) refl (h later blank blank blankLog refl)
 
 -- publish: the first one polls
-abbrev firstPolls : Whole
+abbrev firstPolls : Beginning
 firstPolls = opens opening.Publish (λ c s e. value 0 (at (polling c 0) (withJob Publish c)) s e)
 
-firstPolls-wrong : CallPromise (call.Open opening.Publish) firstPolls → ⊥
+firstPolls-wrong : PublishPromise firstPolls → ⊥
 unfolding rules
-firstPolls-wrong h = apart phased refl (h fresh blank blank blankLog)
+firstPolls-wrong h = apart phased refl (h fresh blank blank blankLog refl)
 
 -- try: as publish, with no poll while `first`
-abbrev tryAsPublish : Whole
+abbrev tryAsPublish : Beginning
 tryAsPublish = opens opening.Try (λ c s e. value 0 (at (beginning c) (withJob Try c)) s e)
 
-tryAsPublish-wrong : CallPromise (call.Open opening.Try) tryAsPublish → ⊥
+tryAsPublish-wrong : TryPromise tryAsPublish → ⊥
 unfolding rules
-tryAsPublish-wrong h = apart phased refl (h fresh blank blank blankLog)
+tryAsPublish-wrong h = apart phased refl (h fresh blank blank blankLog refl)
 
 -- try: one that waits
-abbrev tryWaits : Whole
+abbrev tryWaits : Beginning
 tryWaits = opens opening.Try (λ c s e. value 0 (at (polling c 0) (withJob Publish c)) s e)
 
 -- what a held poll of it answers
 abbrev heldAnswer : Lent Reply → ℕ
 heldAnswer o = number (stopped (o .made .state .control .job) (o .made .state .control) newSlot 0 .answer)
 
-tryWaits-wrong : CallPromise (call.Open opening.Try) tryWaits → ⊥
+tryWaits-wrong : TryPromise tryWaits → ⊥
 unfolding rules
-tryWaits-wrong h = apart heldAnswer refl (h later blank blank blankLog)
+tryWaits-wrong h = apart heldAnswer refl (h later blank blank blankLog refl)
 
--- flush: it publishes first
-abbrev flushesFirst : Whole
+-- flush: it publishes while `first` too
+abbrev flushesFirst : Beginning
 flushesFirst =
     opens opening.Flush
     (λ c s e. elim (c .first || ltb (c .swapped) (c .length)) [ true ↦ value 1 (begun c) s e | false ↦ value 0 c s e ])
 
-flushesFirst-wrong : CallPromise (call.Open opening.Flush) flushesFirst → ⊥
+flushesFirst-wrong : FlushPromise flushesFirst → ⊥
 unfolding rules
-flushesFirst-wrong h = apart valued refl (h fresh blank blank blankLog)
+flushesFirst-wrong h = apart valued refl (h fresh blank blank blankLog refl)
 
 -- flush: it publishes what readers see already
-abbrev flushesSeen : Whole
+abbrev flushesSeen : Beginning
 flushesSeen = opens opening.Flush (λ c s e. elim (ltb 0 (c .length)) [ true ↦ value 1 (begun c) s e | false ↦ value 0 c s e ])
 
-flushesSeen-wrong : CallPromise (call.Open opening.Flush) flushesSeen → ⊥
+flushesSeen-wrong : FlushPromise flushesSeen → ⊥
 unfolding rules
-flushesSeen-wrong h =
-    apart valued refl (h (with1 (standing Idle Publish false true 1 1) noSlot 0) blank blank (logOf (7 ∷ [])))
+flushesSeen-wrong h = apart valued refl (h (with1 (standing Idle Publish false true 1 1) noSlot 0) blank blank log7 refl)
 
 -- take: the lock at its beginning
-abbrev locksAtOnce : Whole
+abbrev locksAtOnce : Beginning
 locksAtOnce =
     opens opening.Take
     (λ c s e.
@@ -459,17 +441,17 @@ locksAtOnce =
     })
     s e)
 
-locksAtOnce-wrong : CallPromise (call.Open opening.Take) locksAtOnce → ⊥
+locksAtOnce-wrong : TakePromise locksAtOnce → ⊥
 unfolding rules
-locksAtOnce-wrong h = apart (λ o. bit (o .made .state .control .lock)) refl (h fresh blank blank blankLog)
+locksAtOnce-wrong h = apart (λ o. bit (o .made .state .control .lock)) refl (h fresh blank blank blankLog refl)
 
 -- take: a publish where the first is made and the log is empty
-abbrev publishesAll : Whole
+abbrev publishesAll : Beginning
 publishesAll = opens opening.Take (λ c s e. value 0 (at Begin (withJob TakeFirst c)) s e)
 
-publishesAll-wrong : CallPromise (call.Open opening.Take) publishesAll → ⊥
+publishesAll-wrong : TakePromise publishesAll → ⊥
 unfolding rules
-publishesAll-wrong h = apart phased refl (h later blank blank blankLog)
+publishesAll-wrong h = apart phased refl (h later blank blank blankLog refl)
 
 -- ---- step and run
 
@@ -477,62 +459,61 @@ abbrev stepBy : Part → Whole
 stepBy f st l r g = let i = place (st .control .phase) in lift i st (f (st .control) (slotAt st i) (snapAt st i) l r g)
 
 -- a reader inside on slot 1, whose snapshot was seen
-abbrev heldAt1 : Job → State
-heldAt1 j = with1 (standing (Poll 1) j false false 0 0) inside 1
+abbrev heldAt1 : State
+heldAt1 = with1 (standing (Poll 1) Publish false false 0 0) inside 1
 
-step-heldMovesOn-wrong : CallPromise call.Step (judging (going 12 (stepBy heldMovesOn))) → ⊥
+step-heldMovesOn-wrong : StepPromise (judging (going 12 (stepBy heldMovesOn))) → ⊥
 unfolding rules
-step-heldMovesOn-wrong h = apart (λ o. place (o .made .state .control .phase)) refl (h (heldAt1 Publish) blank blank blankLog)
+step-heldMovesOn-wrong h = apart (λ o. place (o .made .state .control .phase)) refl (h heldAt1 blank blank blankLog refl)
 
-step-pollPasses-wrong : CallPromise call.Step (judging (going 12 (stepBy pollPasses))) → ⊥
+step-pollPasses-wrong : StepPromise (judging (going 12 (stepBy pollPasses))) → ⊥
 unfolding rules
-step-pollPasses-wrong h = apart answered refl (h (heldAt1 Publish) blank blank blankLog)
+step-pollPasses-wrong h = apart answered refl (h heldAt1 blank blank blankLog refl)
 
-step-snapsFree-wrong : CallPromise call.Step (judging (going 12 (stepBy snapsFree))) → ⊥
+step-snapsFree-wrong : StepPromise (judging (going 12 (stepBy snapsFree))) → ⊥
 unfolding rules
-step-snapsFree-wrong h = apart snapped1 refl (h (with1 (standing (Snap 1) Publish false false 0 0) noSlot 1) blank blank blankLog)
+step-snapsFree-wrong h = apart snapped1 refl (h (with1 (standing (Snap 1) Publish false false 0 0) noSlot 1) blank blank blankLog refl)
 
--- a step that takes the lent words as they are, and judges nothing
-step-unjudged-wrong : CallPromise call.Step (going 12 stepOn) → ⊥
+-- a step before which neither the state nor the lent words are judged
+step-unjudged-wrong : StepPromise (going 12 stepOn) → ⊥
 unfolding rules
-step-unjudged-wrong h = apart answered refl (h (with1 (standing Swap Publish false false 0 0) noSlot 0) [] blank blankLog)
+step-unjudged-wrong h = apart answered refl (h (with1 (standing Swap Publish false false 0 0) noSlot 0) blankLog blank blankLog refl)
 
--- a run that counts the step that is held
-abbrev countsHeld : Whole
-countsHeld st l r g =
+-- a run that says another value where it is held, of the steps that were left and those that were made
+abbrev heldSays : (ℕ → ℕ → ℕ) → Whole
+heldSays f st l r g =
     let o = callRule call.Run st l r g in
-    lent
-    (record {
-      answer = o .made .answer;
-      value = elim (number (o .made .answer)) [ zero ↦ o .made .value | suc a ↦ o .made .value + 1 ];
-      state = o .made .state;
-    })
-    (o .left) (o .right) (o .log)
+    let m = o .made in
+    elim (eqb (number (m .answer)) 13) [
+      | true ↦ lent (record { answer = m .answer; value = f (left (st .control)) (m .value); state = m .state }) (o .left) (o .right) (o .log)
+      | false ↦ o
+    ]
 
-run-countsHeld-wrong : CallPromise call.Run countsHeld → ⊥
+-- the step that is held is counted
+run-countsHeld-wrong : RunPromise (heldSays (λ k n. n + 1)) → ⊥
 unfolding rules
-run-countsHeld-wrong h = apart valued refl (h (heldAt1 Publish) blank blank blankLog)
+run-countsHeld-wrong h = apart valued refl (h heldAt1 blank blank blankLog refl)
 
--- a run that invents its value: what is left, whether or not a poll is held
-abbrev inventsValue : Whole
-inventsValue st l r g =
-    let o = callRule call.Run st l r g in
-    lent (record { answer = o .made .answer; value = left (st .control); state = o .made .state }) (o .left) (o .right) (o .log)
-
-run-inventsValue-wrong : CallPromise call.Run inventsValue → ⊥
+-- all that were left are said to be made
+run-inventsValue-wrong : RunPromise (heldSays (λ k n. k)) → ⊥
 unfolding rules
-run-inventsValue-wrong h = apart valued refl (h (heldAt1 Publish) blank blank blankLog)
+run-inventsValue-wrong h = apart valued refl (h heldAt1 blank blank blankLog refl)
 
 -- a run that makes one step
-run-oneStep-wrong : CallPromise call.Run (judging (going 13 stepOn)) → ⊥
+run-oneStep-wrong : RunPromise (judging (going 13 (steps 1 0))) → ⊥
 unfolding rules
-run-oneStep-wrong h = apart valued refl (h (with1 (standing (Snap 14) Publish false false 0 0) noSlot 0) blank blank blankLog)
+run-oneStep-wrong h = apart phased refl (h (with1 (standing (Snap 14) Publish false false 0 0) noSlot 0) blank blank blankLog refl)
 
--- a run that waits on the last publish's snapshots: take's polls are held by a reader that has left since
+-- a run of at most k such steps, n being made before: until the call ends, or one is held or declined
 abbrev stepsBy : Part → ℕ → ℕ → Whole
 stepsBy f zero n st l r g = lent (record { answer = answer.Done; value = n; state = st }) l r g
-stepsBy f (suc k) n st l r g = goOn (stepsBy f k (n + 1)) n (stepBy f st l r g)
+stepsBy f (suc k) n st l r g =
+    elim (underway (st .control .phase)) [
+      | true ↦ goOn (stepsBy f k (n + 1)) n (stepBy f st l r g)
+      | false ↦ lent (record { answer = answer.Done; value = n; state = st }) l r g
+    ]
 
-run-oldSnapshots-wrong : CallPromise call.Run (judging (going 13 (λ st l r g. stepsBy oldSnapshots (left (st .control)) 0 st l r g))) → ⊥
+-- a run whose take polls by the last publish's snapshots: a reader that entered since is passed
+run-oldSnapshots-wrong : RunPromise (judging (going 13 (λ st l r g. stepsBy oldSnapshots (left (st .control)) 0 st l r g))) → ⊥
 unfolding rules
-run-oldSnapshots-wrong h = apart answered refl (h (with1 (standing Lock TakeFirst false false 0 0) inside 0) blank blank blankLog)
+run-oldSnapshots-wrong h = apart answered refl (h (with1 (standing Lock TakeFirst false false 0 0) inside 0) blank blank blankLog refl)

@@ -1,0 +1,117 @@
+-- Each public contract as a promise of any program, a program being a function of the arguments (`table`'s `Contracts`).
+use Prim.Native.Nat.{ℕ}
+use mathlib.Core.Path.{_≡_, refl}
+use mathlib.Core.Bool.{Bool}
+use mathlib.Core.List.{List}
+use Rattle.table.proofs.Contracts.{typed, Words, Refs, refs, lends, κ₃, Leaves, Keeps, Keeps1, Keeps2}
+use Rattle.read.specs.declared.Slot.{Slot}
+use Rattle.read.specs.declared.Phase.{Phase}
+use Rattle.read.specs.declared.Control.{Control}
+use Rattle.read.specs.declared.Verdict.{Verdict}
+use Rattle.read.specs.declared.Verdict.the-variants.{Admitted, Refused}
+use Rattle.read.specs.declared.State.{State}
+use Rattle.read.specs.declared.Reply.{Reply}
+use Rattle.read.specs.Machine.{judged}
+use Rattle.read.specs.Calls.{Lent, lent, refusal}
+use Rattle.write.specs.declared.Moved.{Moved}
+use Rattle.write.specs.declared.Opening.{Opening}
+use Rattle.write.specs.declared.Opening.the-variants.{Publish, Try, Flush, Take}
+use Rattle.write.specs.declared.Call.the-variants.{Append, Open, Step, Run}
+use Rattle.write.specs.Steps.{holds, place, stepAt}
+use Rattle.write.specs.Begins.{appendOn, openOn}
+use Rattle.write.specs.Machine.{callOn, callRule}
+use Rattle.write.proofs
+
+-- ---- on one slot
+
+abbrev pub HoldsPromise : (Slot → ℕ → Bool) → Type 0
+HoldsPromise = Keeps2 (typed tt proofs.steps.holds.Kinds.ps) (proofs.steps.holds.Reads.Post tt)
+
+abbrev pub PlacePromise : (Phase → ℕ) → Type 0
+PlacePromise = Keeps1 (typed tt proofs.steps.place.Kinds.ps) (proofs.steps.place.Reads.Post tt)
+
+abbrev pub OpenOnPromise : (Opening → Control → Slot → ℕ → Moved) → Type 0
+OpenOnPromise f =
+    (o : Opening) (c : Control) (s : Slot) (e : ℕ) →
+    Keeps (typed tt proofs.begins.open_on.Kinds.ps) (proofs.begins.open_on.Reads.Post tt) (o, (c, (s, (e, tt)))) (f o c s e)
+
+-- on the control part, one slot with its snapshot, and the lent words
+abbrev pub Part : Type 0
+Part = Control → Slot → ℕ → List ℕ → List ℕ → List ℕ → Lent Moved
+
+abbrev pub AdvancePromise : Part → Type 0
+AdvancePromise f =
+    (c : Control) (s : Slot) (e : ℕ) (l r g : Words) →
+    let o = f c s e (l .list) (r .list) (g .list) in
+    Leaves (typed κ₃ proofs.steps.advance.Kinds.ps) (proofs.steps.advance.Reads.Post κ₃) (c, (s, (e, lends l r g))) (o .made)
+    (c, (s, (e, refs (o .left) (o .right) (o .log))))
+
+abbrev pub AppendOnPromise : (ℕ → ℕ → ℕ → Part) → Type 0
+AppendOnPromise f =
+    (kind key amount : ℕ) (c : Control) (s : Slot) (e : ℕ) (l r g : Words) →
+    let o = f kind key amount c s e (l .list) (r .list) (g .list) in
+    Leaves (typed κ₃ proofs.begins.append_on.Kinds.ps) (proofs.begins.append_on.Reads.Post κ₃)
+    (kind, (key, (amount, (c, (s, (e, lends l r g)))))) (o .made)
+    (kind, (key, (amount, (c, (s, (e, refs (o .left) (o .right) (o .log)))))))
+
+-- ---- on the whole machine
+
+-- with the lent words changed
+abbrev pub Whole : Type 0
+Whole = State → List ℕ → List ℕ → List ℕ → Lent Reply
+
+abbrev pub AppendPromise : (ℕ → ℕ → ℕ → Whole) → Type 0
+AppendPromise f =
+    (kind key amount : ℕ) (st : State) (l r g : Words) →
+    let o = f kind key amount st (l .list) (r .list) (g .list) in
+    Leaves (typed κ₃ proofs.append.Kinds.ps) (proofs.append.Reads.Post κ₃) (st, (kind, (key, (amount, lends l r g)))) (o .made)
+    (st, (kind, (key, (amount, refs (o .left) (o .right) (o .log)))))
+
+abbrev Changes : (State × Refs → Bool) → (State × Refs → Reply → State × Refs → Type 0) → Whole → Type 0
+Changes has post f =
+    (st : State) (l r g : Words) →
+    let o = f st (l .list) (r .list) (g .list) in
+    Leaves has post (st, lends l r g) (o .made) (st, refs (o .left) (o .right) (o .log))
+
+abbrev pub StepPromise : Whole → Type 0
+StepPromise = Changes (typed κ₃ proofs.step.Kinds.ps) (proofs.step.Reads.Post κ₃)
+
+abbrev pub RunPromise : Whole → Type 0
+RunPromise = Changes (typed κ₃ proofs.run.Kinds.ps) (proofs.run.Reads.Post κ₃)
+
+-- a beginning changes no word
+abbrev pub Beginning : Type 0
+Beginning = State → List ℕ → List ℕ → List ℕ → Reply
+
+abbrev Begins : (State × Refs → Bool) → (State × Refs → Reply → State × Refs → Type 0) → Beginning → Type 0
+Begins has post f = (st : State) (l r g : Words) → Keeps has post (st, lends l r g) (f st (l .list) (r .list) (g .list))
+
+abbrev pub PublishPromise : Beginning → Type 0
+PublishPromise = Begins (typed κ₃ proofs.publish.Kinds.ps) (proofs.publish.Reads.Post κ₃)
+
+abbrev pub TryPromise : Beginning → Type 0
+TryPromise = Begins (typed κ₃ proofs.try_publish.Kinds.ps) (proofs.try_publish.Reads.Post κ₃)
+
+abbrev pub FlushPromise : Beginning → Type 0
+FlushPromise = Begins (typed κ₃ proofs.flush.Kinds.ps) (proofs.flush.Reads.Post κ₃)
+
+abbrev pub TakePromise : Beginning → Type 0
+TakePromise = Begins (typed κ₃ proofs.take.Kinds.ps) (proofs.take.Reads.Post κ₃)
+
+-- ---- the rules keep them: no promise is false of every program
+
+abbrev begin : Opening → Beginning
+begin o st l r g = callRule (Open o) st l r g .made
+
+begin-leaves : (o : Opening) (st : State) (l r g : List ℕ) → lent (begin o st l r g) l r g ≡ callRule (Open o) st l r g
+unfolding callOn callRule
+begin-leaves o st l r g =
+    let at : Verdict → Lent Reply = λ v. elim v [ Admitted ↦ callOn (Open o) st l r g | Refused a ↦ lent (refusal a st) l r g ] in
+    let by : (v : Verdict) → lent (at v .made) l r g ≡ at v = λ v. elim v [ Admitted ↦ refl | Refused a ↦ refl ] in
+    by (judged (st .control) l r g)
+
+pub kept :
+    HoldsPromise holds × PlacePromise place × OpenOnPromise openOn × AdvancePromise (λ c. stepAt (c .phase) c) × AppendOnPromise appendOn
+    × AppendPromise (λ kind key amount. callRule (Append kind key amount)) × StepPromise (callRule Step) × RunPromise (callRule Run)
+    × PublishPromise (begin Publish) × TryPromise (begin Try) × FlushPromise (begin Flush) × TakePromise (begin Take)
+kept = search begin-leaves
