@@ -20,7 +20,7 @@ use Rattle.write.specs.declared.Call.the-variants.{Create, On, Append, Open, St
 use Rattle.write.proofs.Cases.{by}
 use Rattle.demands.specs.Account.{Reader, Store, Account, Move, begin, poll, copy, apply, swap, snap, null, lock, finish, upFrom, provided, publishing, publishPlan, firstInside, planOf, unswapped, withAt, inside, created, withLife, withPlan, ofReader, ofStore, turned, closes, missed, spoke, accepts, begins, advanced, ran, stopped, noted}
 use Rattle.demands.specs.Table.{delays, meets, meetsReader}
-use Rattle.demands.proofs.Booleans.{none}
+use Rattle.demands.proofs.Booleans.{and-false}
 
 -- a swap comes before every snapshot, and b at the end
 abbrev swapsFirst : Bool → List Move → Bool
@@ -184,7 +184,7 @@ none-met a h = go (a .plan)
         let e = h .unread i in
         ap (λ (b : Bool). a .readers i .lives && (b && eqb (a .readers i .snapshot % 2 ^ 64) (a .readers i .epoch % 2 ^ 64)))
         (ne-eqb (a .readers i .snapshot % 2) 1 (λ q. omega (arith, e)))
-        ∙ none (a .readers i .lives)
+        ∙ and-false (a .readers i .lives)
 
     one : (x : Move) → meets a x ≡ false
     one begin = refl
