@@ -5,7 +5,7 @@ use Rattle.read.specs.Calls.{Lent}
 use Rattle.write.specs.declared.Call.{Call}
 use Rattle.write.specs.Machine.{callOn, callRule}
 use Rattle.write.proofs.NeverBroken.{Sound, call-made, sound-call}
-use Rattle.demands.specs.History.{World, reply, next}
+use Rattle.write.specs.World.{World, reply, next}
 
 abbrev pub SoundIn : World → Type 0
 SoundIn w = Sound (w .state) (w .left) (w .right) (w .log)

@@ -38,8 +38,8 @@ use Rattle.write.specs.Machine.{callOn, callRule}
 use Rattle.write.proofs.Cases.{by, below, append-cases, open-cases, snapping-cases}
 use Rattle.write.proofs.Verdicts.{judging}
 use Rattle.write.proofs.Control.{Placed}
-use Rattle.demands.specs.History.{World, freshWorld, worldOf, next}
-use Rattle.demands.specs.Calls.{isRun}
+use Rattle.write.specs.World.{World, freshWorld, worldOf, next}
+use Rattle.write.specs.Numbers.{isRun}
 use Rattle.demands.proofs.Sides.{readCopy}
 use Rattle.demands.proofs.TwoLog.{over-whole}
 use Rattle.demands.proofs.TwoLifts.{ctl}

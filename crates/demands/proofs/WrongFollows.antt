@@ -12,7 +12,7 @@ use Rattle.read.specs.declared.Handle.the-variants.{Drop, Enter, Release}
 use Rattle.write.specs.declared.Opening.the-variants.{Publish, Take}
 use Rattle.write.specs.declared.Call.{Call}
 use Rattle.write.specs.declared.Call.the-variants.{Create, On, Append, Open, Step, Run}
-use Rattle.demands.specs.Calls.{callNumber}
+use Rattle.write.specs.Numbers.{callNumber}
 use Rattle.demands.specs.Follows.{Follows}
 use Rattle.demands.specs.KnownEnds.{publish, enters, p5, cases, KnownEnds}
 use Rattle.demands.proofs.WrongMachines.{inventsValue, publishTries, takeDeclines, snapsEven, finishTurns, createsOne, dropZeroes, dropKeeps, dropsOpen, entersZero, goesToSeven, publishesInside, publishesGone, acceptsBusy, neverRounds}

@@ -24,7 +24,7 @@ use Rattle.write.specs.Runs.{snapAt, lift}
 use Rattle.write.specs.Machine.{callOn, callRule}
 use Rattle.write.proofs.Cases.{append-cases}
 use Rattle.write.proofs.Verdicts.{judging}
-use Rattle.demands.specs.History.{Machine, reply, answerOf, valueOf}
+use Rattle.write.specs.World.{Machine, reply, answerOf, valueOf}
 use Rattle.demands.specs.Account.{Account, account, stored, noted}
 use Rattle.demands.specs.Table.{wanted}
 use Rattle.demands.specs.Demands.{Told, Demands, tell, telling, told, freshTold}

@@ -11,7 +11,7 @@ use Rattle.read.specs.Machine.{fresh}
 use Rattle.write.specs.declared.Opening.the-variants.{Publish}
 use Rattle.write.specs.declared.Call.the-variants.{Create, Append, Step}
 use Rattle.write.specs.Steps.{withLog, place}
-use Rattle.demands.specs.History.{World, freshWorld}
+use Rattle.write.specs.World.{World, freshWorld}
 use Rattle.demands.specs.Demand1.{Lengths, Sized, Fit, Demand1, Starts}
 use Rattle.demands.specs.Demands.{told}
 use Rattle.demands.proofs.WrongMachines.{withControl, heldMovesOn, refusalWrites, refusalCounts, callsShort, callsBroken, anyLength, anyState, startRefuses, startsAnyLength, startLeaves, startZeroes, startCounts}

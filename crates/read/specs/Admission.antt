@@ -27,18 +27,18 @@ row Finish = 12
 row Gone = 13
 
 -- the calls by their numbers in a schedule, 1 to 14, stand in columns 0 to 13; those on slot 0, 2 to 7, again in columns 14 to 19
-abbrev pub callOf : Handle → ℕ
-callOf Drop = 2
-callOf Enter = 3
-callOf GoOn = 4
-callOf (Release g) = 5
-callOf (LookUp g key) = 6
-callOf WasDropped = 7
+abbrev pub handleNumber : Handle → ℕ
+handleNumber Drop = 2
+handleNumber Enter = 3
+handleNumber GoOn = 4
+handleNumber (Release g) = 5
+handleNumber (LookUp g key) = 6
+handleNumber WasDropped = 7
 
 -- by whether the slot is slot 0
 abbrev pub column : Handle → Bool → ℕ
-column h true = callOf h + 12
-column h false = callOf h - 1
+column h true = handleNumber h + 12
+column h false = handleNumber h - 1
 
 abbrev pub createColumn : ℕ
 createColumn = 0

@@ -21,8 +21,12 @@ use Rattle.read.specs.declared.Verdict.the-variants.{Admitted, Refused}
 
 -- ---- sizes
 
+-- the number of slots as the code's arrays have it; and shut, for rules and laws, which hold of any number
+abbrev pub slotTotal : ℕ
+slotTotal = 16
+
 unfoldable pub slotCount : ℕ
-slotCount = 16
+slotCount = slotTotal
 
 abbrev pub guardCount : ℕ
 guardCount = 4

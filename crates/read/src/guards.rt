@@ -1,6 +1,7 @@
 // A slot and its guards, by value: what read/guard.rs does to a handle's own record.
 use crate::Control;
 use crate::Due;
+use crate::GUARDS;
 use crate::Guard;
 use crate::Made;
 use crate::Slot;
@@ -10,12 +11,12 @@ ghost use mathlib.Core.Path.{_≡_};
 ghost use Rattle.read.specs.Machine.{isOpen, putGuard, firstGuard, anyOpen, allOpen, isDue, isLoad, noSlot, newSlot, noGuards};
 ghost use Rattle.read.specs.Handles.{withDue, freed as freedRule, guarded as guardedRule, loaded as loadedRule, entered as enteredRule, wentOn, released as releasedRule};
 
-// The first guard that is open, or that is shut, by what is wanted; 4 where there is none.
-pub fn first_guard(want: bool, g: [Guard; 4]) -> usize
+// The first guard that is open, or that is shut, by what is wanted; their number where there is none.
+pub fn first_guard(want: bool, g: [Guard; GUARDS]) -> usize
     ensures { λ r. ⌜ r ≡ firstGuard want g ⌝ }
 {
     let mut j = 0;
-    while j < 4 {
+    while j < GUARDS {
         let x = g[j];
         if judge::same(want, x.opened) {
             return j;
@@ -25,26 +26,26 @@ pub fn first_guard(want: bool, g: [Guard; 4]) -> usize
     j
 }
 
-pub fn is_open(g: [Guard; 4], j: usize) -> bool
+pub fn is_open(g: [Guard; GUARDS], j: usize) -> bool
     ensures { λ r. ⌜ r ≡ isOpen g j ⌝ }
 {
-    if j < 4 {
+    if j < GUARDS {
         let x = g[j];
         return x.opened;
     }
     false
 }
 
-pub fn any_open(g: [Guard; 4]) -> bool
+pub fn any_open(g: [Guard; GUARDS]) -> bool
     ensures { λ r. ⌜ r ≡ anyOpen g ⌝ }
 {
-    first_guard(true, g) < 4
+    first_guard(true, g) < GUARDS
 }
 
-pub fn all_open(g: [Guard; 4]) -> bool
+pub fn all_open(g: [Guard; GUARDS]) -> bool
     ensures { λ r. ⌜ r ≡ allOpen g ⌝ }
 {
-    4 <= first_guard(false, g)
+    GUARDS <= first_guard(false, g)
 }
 
 pub fn is_due(d: Due) -> bool
@@ -67,14 +68,14 @@ pub fn is_load(d: Due) -> bool
     }
 }
 
-fn no_guards() -> [Guard; 4]
+fn no_guards() -> [Guard; GUARDS]
     ensures { λ r. ⌜ r ≡ noGuards ⌝ }
 {
     let shut = Guard {
         opened: false,
         right: false,
     };
-    [shut; 4]
+    [shut; GUARDS]
 }
 
 pub fn no_slot() -> Slot
@@ -120,11 +121,11 @@ pub fn freed(s: Slot) -> Slot
 }
 
 // Guard `j` becomes `x`.
-fn put_guard(j: usize, x: Guard, g: [Guard; 4]) -> [Guard; 4]
+fn put_guard(j: usize, x: Guard, g: [Guard; GUARDS]) -> [Guard; GUARDS]
     ensures { λ r. ⌜ r ≡ putGuard j x g ⌝ }
 {
     let mut after = g;
-    if j < 4 {
+    if j < GUARDS {
         after[j] = x;
     }
     after

@@ -1,6 +1,7 @@
 // A call on a handle, on the control part and the handle's own slot.
 use crate::Control;
 use crate::Due;
+use crate::GUARDS;
 use crate::Guard;
 use crate::Handle;
 use crate::Made;
@@ -31,7 +32,7 @@ fn mistimed(h: Handle, d: Due) -> bool
     }
 }
 
-fn leaves_guards(h: Handle, g: [Guard; 4]) -> bool
+fn leaves_guards(h: Handle, g: [Guard; GUARDS]) -> bool
     ensures { λ r. ⌜ r ≡ leavesGuards h g ⌝ }
 {
     match h {
@@ -44,7 +45,7 @@ fn leaves_guards(h: Handle, g: [Guard; 4]) -> bool
     }
 }
 
-fn lacks_guard(h: Handle, g: [Guard; 4]) -> bool
+fn lacks_guard(h: Handle, g: [Guard; GUARDS]) -> bool
     ensures { λ r. ⌜ r ≡ lacksGuard h g ⌝ }
 {
     match h {
@@ -111,10 +112,15 @@ fn bit(b: bool) -> u64
 }
 
 // The copy that guard `j` stands on.
-pub fn guarded_copy<'a>(g: [Guard; 4], j: usize, left: &'a [u64], right: &'a [u64]) -> &'a [u64]
+pub fn guarded_copy<'a>(
+    g: [Guard; GUARDS],
+    j: usize,
+    left: &'a [u64],
+    right: &'a [u64],
+) -> &'a [u64]
     ensures { λ r. ⌜ now r ≡ guardedCopy g j (now (left .entry)) (now (right .entry)) ⌝ }
 {
-    if j < 4 {
+    if j < GUARDS {
         let x = g[j];
         if x.right {
             return right;

@@ -1,6 +1,9 @@
 // What every call is judged on, and which refusal is given.
 use crate::Control;
+use crate::LOG_ROOM;
+use crate::LOG_WORDS;
 use crate::Phase;
+use crate::SLOTS;
 use crate::Signs;
 use crate::Verdict;
 use table::Answer;
@@ -10,6 +13,8 @@ ghost use Prim.Native.Nat.{_≤_, _*_};
 ghost use lib.ListN.{length};
 ghost use Rattle.read.specs.Machine.{same as sameRule, locks as locksRule, nulls as nullsRule, isGone, underway as underwayRule, inRange, lawfulAt, firstUnlawful, sized as sizedRule, wholeControl, glanced, judged};
 ghost use Rattle.read.specs.Handles.{smallest as smallestRule};
+
+const MOST: u64 = table::PAIRS as u64;
 
 pub fn either(a: bool, b: bool) -> bool
     ensures { λ r. ⌜ r ≡ (a || b) ⌝ }
@@ -106,16 +111,16 @@ fn in_range(c: Control) -> bool
     match p {
         Phase::Idle => true,
         Phase::Begin => true,
-        Phase::Poll(k) => k < 16,
+        Phase::Poll(k) => k < SLOTS,
         Phase::Copy => true,
         Phase::Drain => 0 < c.swapped,
         Phase::Keep(k) => k < c.length,
         Phase::Swap => true,
-        Phase::Snap(k) => k < 16,
+        Phase::Snap(k) => k < SLOTS,
         Phase::Null => true,
         Phase::Lock => true,
-        Phase::LastSnap(k) => k < 16,
-        Phase::LastPoll(k) => k < 16,
+        Phase::LastSnap(k) => k < SLOTS,
+        Phase::LastPoll(k) => k < SLOTS,
         Phase::Finish => true,
         Phase::Gone => true,
     }
@@ -140,7 +145,7 @@ fn whole_control(c: Control) -> bool
     let p = c.phase;
     let fits = both(same(c.lock, locks(p)), same(c.null, nulls(p)));
     both(
-        c.length <= 256,
+        c.length <= LOG_ROOM,
         both(c.swapped <= c.length, both(in_range(c), fits)),
     )
 }
@@ -164,8 +169,8 @@ pub fn sized(left: &[u64], right: &[u64], log: &[u64]) -> bool
     ensures { λ r. ⌜ r ≡ sizedRule (now (left .entry)) (now (right .entry)) (now (log .entry)) ⌝ }
 {
     both(
-        left.len() == 1026,
-        both(right.len() == 1026, log.len() == 768),
+        left.len() == table::WORDS,
+        both(right.len() == table::WORDS, log.len() == LOG_WORDS),
     )
 }
 
@@ -176,7 +181,7 @@ pub fn glance(c: Control, left: &[u64], right: &[u64], log: &[u64]) -> Verdict
     if !sized(left, right, log) {
         return Verdict::Refused(Answer::Length);
     }
-    if both(left[0] <= 512, both(right[0] <= 512, whole_control(c))) {
+    if both(left[0] <= MOST, both(right[0] <= MOST, whole_control(c))) {
         return Verdict::Admitted;
     }
     Verdict::Refused(Answer::Broken)

@@ -12,6 +12,15 @@ ghost use Prim.Native.Nat.{_<_};
 ghost use Rattle.read.specs.Machine.{slotCount, fresh};
 ghost use Rattle.read.specs.Calls.{slotAt, withSlot, refusal as refusalOf, firstFree, createSigns, throughGuard, throughRule, lent, handleReply, handleRule, createReply, createRule, viewRule, pairRule, startRule};
 
+// How many slots there are, how many guards a handle has, how many operations the log has room for, and its words, three each.
+pub const SLOTS: usize = 16;
+
+pub const GUARDS: usize = 4;
+
+pub const LOG_ROOM: usize = 256;
+
+pub const LOG_WORDS: usize = 3 * LOG_ROOM;
+
 // What a handle still has to do: the load of an enter, or putting the epoch back after a load that found null.
 pub enum Due {
     Nothing,
@@ -29,7 +38,7 @@ pub struct Guard {
 pub struct Slot {
     pub used: bool,
     pub epoch: u64,
-    pub guards: [Guard; 4],
+    pub guards: [Guard; GUARDS],
     pub due: Due,
 }
 
@@ -75,8 +84,8 @@ pub struct Control {
 
 pub struct State {
     pub control: Control,
-    pub slots: [Slot; 16],
-    pub snapshots: [u64; 16],
+    pub slots: [Slot; SLOTS],
+    pub snapshots: [u64; SLOTS],
 }
 
 // A call on a handle. Release and look up say which guard, and look up which key.
@@ -138,12 +147,12 @@ fn fresh_state() -> State
     };
     let free = guards::no_slot();
     let own = guards::new_slot();
-    let mut slots = [free; 16];
+    let mut slots = [free; SLOTS];
     slots[0] = own;
     State {
         control: control,
         slots: slots,
-        snapshots: [0u64; 16],
+        snapshots: [0u64; SLOTS],
     }
 }
 
@@ -175,12 +184,12 @@ pub fn start(left: &mut [u64], right: &mut [u64], log: &mut [u64]) -> Reply
     }
 }
 
-// The lowest free slot, or 16.
-fn first_free(slots: [Slot; 16]) -> usize
+// The lowest free slot, or the number of slots.
+fn first_free(slots: [Slot; SLOTS]) -> usize
     ensures { λ r. ⌜ r ≡ firstFree slots ⌝ }
 {
     let mut i = 0;
-    while i < 16 {
+    while i < SLOTS {
         let s = slots[i];
         if !s.used {
             return i;
@@ -194,7 +203,7 @@ fn first_free(slots: [Slot; 16]) -> usize
 fn slot_at(st: State, slot: usize) -> Slot
     ensures { λ r. ⌜ r ≡ slotAt st slot ⌝ }
 {
-    if 16 <= slot {
+    if SLOTS <= slot {
         return guards::no_slot();
     }
     let slots = st.slots;
@@ -216,7 +225,7 @@ fn create_signs(c: Control, i: usize) -> Signs
         no_guard: false,
         four_guards: false,
         log_full: false,
-        slots_full: 16 <= i,
+        slots_full: SLOTS <= i,
     }
 }
 
@@ -230,7 +239,7 @@ fn through_guard<'a>(
 ) -> &'a [u64]
     ensures { λ r. ⌜ now r ≡ throughGuard slot guard (now (left .entry)) (now (right .entry)) st ⌝ }
 {
-    if 16 <= slot {
+    if SLOTS <= slot {
         return &left[0..0];
     }
     let c = st.control;
@@ -284,7 +293,7 @@ fn with_slot(slot: usize, s: Slot, st: State) -> State
 fn handle_reply<'a>(st: State, slot: usize, h: Handle, left: &'a [u64], right: &'a [u64]) -> Reply
     ensures { λ r. ⌜ r ≡ handleReply slot h (now (left .entry)) (now (right .entry)) st ⌝ }
 {
-    if 16 <= slot {
+    if SLOTS <= slot {
         return refusal(Answer::NoSlot, st);
     }
     let c = st.control;
@@ -318,7 +327,7 @@ pub fn on_handle<'a>(
     }
 }
 
-// A new handle in slot `i`, the lowest that is free, or none where `i` is 16.
+// A new handle in slot `i`, the lowest that is free, or none where there is none.
 fn create_reply(i: usize, st: State) -> Reply
     ensures { λ r. ⌜ r ≡ createReply i st ⌝ }
 {

@@ -1,5 +1,7 @@
--- What comes back: the number that stands for each answer.
+-- What comes back: the number that stands for each answer, and which are refusals.
 use Prim.Native.Nat.{ℕ}
+use mathlib.Core.Bool.{Bool, _&&_}
+use lib.Dec.{leb}
 use Rattle.table.specs.declared.Answer.{Answer}
 use Rattle.table.specs.declared.Answer.the-variants.{Done, Length, Broken, Gone, NoSlot, Operation, NotNow, Locked, GuardsOpen, NoGuard, FourGuards, LogFull, SlotsFull, Held, Declined, None}
 
@@ -20,3 +22,7 @@ number SlotsFull = 12
 number Held = 13
 number Declined = 14
 number None = 15
+
+-- a refusal changes nothing; the answers behind it say how a step or a load went
+abbrev pub refusing : ℕ → Bool
+refusing n = leb 1 n && leb n 12

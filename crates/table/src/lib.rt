@@ -7,9 +7,13 @@ ghost use lib.ListN.{length, take, drop};
 ghost use Rattle.table.specs.Answers.{number as numberRule};
 ghost use Rattle.table.specs.Copy.{entries, pairs, passes as passesRule, first as firstRule, grown as grownRule, opened, closeRule, zeros, added, dropped, applied, lawful as lawfulRule, fitness, fits as fitsRule, Fit, applyRule, lookRule, usedRule};
 
-const PAIRS: u64 = 512;
+// How many pairs a copy has room for.
+pub const PAIRS: usize = 512;
 
-const WORDS: usize = 1026;
+// How many words a copy has: entry count, spill and the pairs.
+pub const WORDS: usize = 2 + 2 * PAIRS;
+
+const MOST: u64 = PAIRS as u64;
 
 const TOP: u64 = 18446744073709551615;
 
@@ -63,7 +67,7 @@ pub fn fit(w: &[u64]) -> Answer
     if w.len() != WORDS {
         return Answer::Length;
     }
-    if PAIRS < w[0] {
+    if MOST < w[0] {
         return Answer::Broken;
     }
     Answer::Done
@@ -185,7 +189,7 @@ fn add_in(w: &mut [u64], key: u64, amount: u64)
         w[at] = grown(w[at], amount);
         return;
     }
-    if PAIRS <= w[0] {
+    if MOST <= w[0] {
         w[1] = grown(w[1], 1);
         return;
     }
@@ -232,7 +236,7 @@ fn is_fit(w: &[u64]) -> bool
     if w.len() != WORDS {
         return false;
     }
-    w[0] <= PAIRS
+    w[0] <= MOST
 }
 
 // An operation on a copy: refused with nothing changed, or made.

@@ -8,6 +8,7 @@ use native.Mathlib.Numerals.{add-one}
 use borrow.Author.Tests.{lt-ltb, le-ltb, le-leb, lt-leb}
 use lib.ListN.{length, getD, take, drop, set, drop-of-length-le}
 use lib.Seq.{take-suc, drop-cons, take-all, length-take-le, set-at, append-snoc}
+use Rattle.read.specs.Machine.{logRoom}
 use Rattle.table.specs.Copy.{closeRule, applyRule, Out}
 use Rattle.write.specs.Steps.{ofLeft, ofRight, logApplied, over, unlogged}
 use Rattle.write.specs.Begins.{logged}
@@ -29,18 +30,18 @@ of-right side f l r q h = (rw (q, ofLeft), rw (q, ofRight) h)
 
 pub logged-applied :
     (g : List ℕ) (i : ℕ) (w : List ℕ) {kind key amount : ℕ} {o : Out} →
-    i < 256 → kind ≡ getD g (3 * i) 0 → key ≡ getD g (3 * i + 1) 0 → amount ≡ getD g (3 * i + 2) 0 → o ≡ applyRule kind key amount w →
+    i < logRoom → kind ≡ getD g (3 * i) 0 → key ≡ getD g (3 * i + 1) 0 → amount ≡ getD g (3 * i + 2) 0 → o ≡ applyRule kind key amount w →
     o .copy ≡ logApplied g i w
-logged-applied g i w h x y z e = ap (λ (o : Out). o .copy) e ∙ rw (x, y, z, logApplied, lt-ltb i 256 h)
+logged-applied g i w h x y z e = ap (λ (o : Out). o .copy) e ∙ rw (x, y, z, logApplied, lt-ltb i logRoom h)
 
-pub logged-beyond : (g : List ℕ) (i : ℕ) (w : List ℕ) → 256 ≤ i → w ≡ logApplied g i w
-logged-beyond g i w h = rw (logApplied, le-ltb i 256 h)
+pub logged-beyond : (g : List ℕ) (i : ℕ) (w : List ℕ) → logRoom ≤ i → w ≡ logApplied g i w
+logged-beyond g i w h = rw (logApplied, le-ltb i logRoom h)
 
-pub unlogged-room : (n m : ℕ) (g : List ℕ) {w : List ℕ} → n ≤ 256 → m ≡ 3 * (n - 1) → w ≡ closeRule 3 m g → w ≡ unlogged n g
-unlogged-room n m g h q e = rw (unlogged, le-leb n 256 h) (e ∙ ap (λ (m : ℕ). closeRule 3 m g) q)
+pub unlogged-room : (n m : ℕ) (g : List ℕ) {w : List ℕ} → n ≤ logRoom → m ≡ 3 * (n - 1) → w ≡ closeRule 3 m g → w ≡ unlogged n g
+unlogged-room n m g h q e = rw (unlogged, le-leb n logRoom h) (e ∙ ap (λ (m : ℕ). closeRule 3 m g) q)
 
-pub unlogged-beyond : (n : ℕ) (g : List ℕ) → 256 < n → g ≡ unlogged n g
-unlogged-beyond n g h = rw (unlogged, lt-leb n 256 h)
+pub unlogged-beyond : (n : ℕ) (g : List ℕ) → logRoom < n → g ≡ unlogged n g
+unlogged-beyond n g h = rw (unlogged, lt-leb n logRoom h)
 
 pub logged-put :
     (n kind key amount : ℕ) (g : List ℕ) {x y z : List ℕ} →

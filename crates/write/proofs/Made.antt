@@ -109,7 +109,7 @@ module _ (kind key amount : ℕ) (c : Control) (s : Slot) (e : ℕ) (l r g : Lis
 
   pub appended-later :
       {m : Moved} {d : Control} {g' : List ℕ} →
-      c .first ≡ false → c .length < 256 → d ≡ withLog (c .length + 1) (c .swapped) c → m ≡ value 0 d s e →
+      c .first ≡ false → c .length < logRoom → d ≡ withLog (c .length + 1) (c .swapped) c → m ≡ value 0 d s e →
       g' ≡ logged (c .length) kind key amount g → lent m l r g' ≡ appended (c .first) kind key amount c s e l r g
   appended-later x k y h w =
       (λ i. lent ((h ∙ ap (λ (d : Control). value 0 d s e) y) i) l r (w i))
@@ -118,16 +118,16 @@ module _ (kind key amount : ℕ) (c : Control) (s : Slot) (e : ℕ) (l r g : Lis
       later :
           lent (value 0 (withLog (c .length + 1) (c .swapped) c) s e) l r (logged (c .length) kind key amount g)
           ≡ appended false kind key amount c s e l r g
-      later = rw (appendLater, lt-ltb (c .length) 256 k)
+      later = rw (appendLater, lt-ltb (c .length) logRoom k)
 
   pub appended-full :
-      {m : Moved} → c .first ≡ false → 256 ≤ c .length → m ≡ refused answer.LogFull c s e →
+      {m : Moved} → c .first ≡ false → logRoom ≤ c .length → m ≡ refused answer.LogFull c s e →
       lent m l r g ≡ appended (c .first) kind key amount c s e l r g
   appended-full x k h =
       ap (λ (m : Moved). lent m l r g) h ∙ full ∙ ap (λ (f : Bool). appended f kind key amount c s e l r g) (sym x)
     where
       full : lent (refused answer.LogFull c s e) l r g ≡ appended false kind key amount c s e l r g
-      full = rw (appendLater, le-ltb (c .length) 256 k)
+      full = rw (appendLater, le-ltb (c .length) logRoom k)
 
   abbrev Judged : Verdict → Lent Moved
   Judged v = elim v [ Admitted ↦ appended (c .first) kind key amount c s e l r g | Refused a ↦ lent (refused a c s e) l r g ]

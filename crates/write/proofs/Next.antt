@@ -12,7 +12,7 @@ use Rattle.read.specs.declared.Phase.the-variants.{Idle, Begin, Poll, Drain, Ke
 use Rattle.read.specs.declared.Job.{Job}
 use Rattle.read.specs.declared.Job.the-variants.{Try, TakeFirst}
 use Rattle.read.specs.declared.Control.{Control}
-use Rattle.read.specs.Machine.{slotCount, underway}
+use Rattle.read.specs.Machine.{slotTotal, slotCount, underway}
 use Rattle.read.specs.Handles.{bit}
 use Rattle.write.specs.declared.Moved.{Moved}
 use Rattle.write.specs.Steps.{keeping, draining, polled, polling, beginning, published, nextJob, lastPolling, lastSnapping, at, withJob, withLog, ended, snapping, drained, holds, moved, refused, stopped, pollMove, lastPollMove}
@@ -39,13 +39,13 @@ draining-swap s n h k = rw (draining, le-ltb 0 s h) (keeping-done n 0 k)
 pub polled-rest : (c : Control) {p : Phase} → c .first ≡ false → c .second ≡ false → p ≡ draining (c .swapped) (c .length) → p ≡ polled c
 polled-rest c x y e = rw (polled, x, y) e
 
-pub polling-here : (c : Control) (k : ℕ) → k < 16 → Poll k ≡ polling c k
+pub polling-here : (c : Control) (k : ℕ) → k < slotTotal → Poll k ≡ polling c k
 unfolding slotCount
-polling-here c k h = rw (polling, lt-ltb k 16 h)
+polling-here c k h = rw (polling, lt-ltb k slotTotal h)
 
-pub polling-done : (c : Control) (k : ℕ) {p : Phase} → 16 ≤ k → p ≡ polled c → p ≡ polling c k
+pub polling-done : (c : Control) (k : ℕ) {p : Phase} → slotTotal ≤ k → p ≡ polled c → p ≡ polling c k
 unfolding slotCount
-polling-done c k h e = rw (polling, le-ltb k 16 h) e
+polling-done c k h e = rw (polling, le-ltb k slotTotal h) e
 
 pub beginning-poll : (c : Control) → c .first ≡ false → Poll 0 ≡ beginning c
 beginning-poll c x = rw (beginning, x) (polling-here c 0 (omega arith))
@@ -63,31 +63,31 @@ pub ended-of :
     p ≡ published (c .job) (c .length) → j ≡ nextJob (c .job) → w ≡ withJob j c → r ≡ at p w → r ≡ ended c
 ended-of c e f g h = h ∙ rw (g, e, f)
 
-pub snapping-here : (c : Control) (k : ℕ) {r : Control} → k < 16 → r ≡ at (Snap k) c → r ≡ snapping c k
+pub snapping-here : (c : Control) (k : ℕ) {r : Control} → k < slotTotal → r ≡ at (Snap k) c → r ≡ snapping c k
 unfolding slotCount
-snapping-here c k h e = rw (snapping, lt-ltb k 16 h) e
+snapping-here c k h e = rw (snapping, lt-ltb k slotTotal h) e
 
-pub snapping-done : (c : Control) (k : ℕ) {r : Control} → 16 ≤ k → r ≡ ended c → r ≡ snapping c k
+pub snapping-done : (c : Control) (k : ℕ) {r : Control} → slotTotal ≤ k → r ≡ ended c → r ≡ snapping c k
 unfolding slotCount
-snapping-done c k h e = rw (snapping, le-ltb k 16 h) e
+snapping-done c k h e = rw (snapping, le-ltb k slotTotal h) e
 
 -- ---- take's last snapshots and polls
 
-pub last-polling-here : (k : ℕ) → k < 16 → LastPoll k ≡ lastPolling k
+pub last-polling-here : (k : ℕ) → k < slotTotal → LastPoll k ≡ lastPolling k
 unfolding slotCount
-last-polling-here k h = rw (lastPolling, lt-ltb k 16 h)
+last-polling-here k h = rw (lastPolling, lt-ltb k slotTotal h)
 
-pub last-polling-done : (k : ℕ) → 16 ≤ k → Finish ≡ lastPolling k
+pub last-polling-done : (k : ℕ) → slotTotal ≤ k → Finish ≡ lastPolling k
 unfolding slotCount
-last-polling-done k h = rw (lastPolling, le-ltb k 16 h)
+last-polling-done k h = rw (lastPolling, le-ltb k slotTotal h)
 
-pub last-snapping-here : (k : ℕ) → k < 16 → LastSnap k ≡ lastSnapping k
+pub last-snapping-here : (k : ℕ) → k < slotTotal → LastSnap k ≡ lastSnapping k
 unfolding slotCount
-last-snapping-here k h = rw (lastSnapping, lt-ltb k 16 h)
+last-snapping-here k h = rw (lastSnapping, lt-ltb k slotTotal h)
 
-pub last-snapping-done : (k : ℕ) → 16 ≤ k → LastPoll 0 ≡ lastSnapping k
+pub last-snapping-done : (k : ℕ) → slotTotal ≤ k → LastPoll 0 ≡ lastSnapping k
 unfolding slotCount
-last-snapping-done k h = rw (lastSnapping, le-ltb k 16 h)
+last-snapping-done k h = rw (lastSnapping, le-ltb k slotTotal h)
 
 -- ---- an operation taken off the log
 

@@ -13,7 +13,7 @@ use Rattle.read.specs.declared.Phase.the-variants.{Idle, Begin, Poll, Copy, Dra
 use Rattle.read.specs.declared.Control.{Control}
 use Rattle.read.specs.declared.State.{State}
 use Rattle.read.specs.declared.Reply.{Reply}
-use Rattle.read.specs.Machine.{slotCount, noSlot, underway}
+use Rattle.read.specs.Machine.{slotTotal, slotCount, noSlot, underway}
 use Rattle.read.specs.Calls.{Lent, lent, slotAt}
 use Rattle.read.proofs.Cases.{getD-within}
 use Rattle.write.specs.declared.Moved.{Moved}
@@ -23,7 +23,7 @@ use Rattle.write.specs.Runs.{snapAt, putBack, lift, stepOn}
 use Rattle.write.proofs.Control.{Placed, Whole}
 use Rattle.write.proofs.RunLaws.{stateOf, Goes, Scans, scanning, goes-made, scan-start, scan-passed, scan-stopped}
 
-placed-below : (n s : ℕ) (p : Phase) → Placed n s p → place p < 16
+placed-below : (n s : ℕ) (p : Phase) → Placed n s p → place p < slotTotal
 unfolding slotCount
 placed-below n s Idle h = omega arith
 placed-below n s Begin h = omega arith
@@ -41,8 +41,8 @@ placed-below n s Finish h = omega arith
 placed-below n s Gone h = omega arith
 
 -- the slot that a step looks at is there
-pub place-below : {c : Control} {i : ℕ} → Whole c → i ≡ place (c .phase) → i < 16
-place-below {c} w e = subst (λ (i : ℕ). i < 16) (sym e) (placed-below (c .length) (c .swapped) (c .phase) (w .placed))
+pub place-below : {c : Control} {i : ℕ} → Whole c → i ≡ place (c .phase) → i < slotTotal
+place-below {c} w e = subst (λ (i : ℕ). i < slotTotal) (sym e) (placed-below (c .length) (c .swapped) (c .phase) (w .placed))
 
 -- a move at slot i, put back
 pub step-lifted :
@@ -70,7 +70,7 @@ step-there c ss i e d l r g h x = x ∙ ap (λ (s : Slot). stepAt (c .phase) c s
 pub record Running (o : Lent Reply) (k n : ℕ) (a : Answer) (c : Control) (ss : List Slot) (es l r g l₀ r₀ g₀ : List ℕ) : Type 0 where
   pub goes : Goes o k n c ss es l r g
   pub done : a ≡ answer.Done
-  pub slots : length ss ≡ 16
+  pub slots : length ss ≡ slotTotal
   pub left : length l ≡ length l₀
   pub right : length r ≡ length r₀
   pub log : length g ≡ length g₀
@@ -82,11 +82,11 @@ pub record Scanned (c₀ : Control) (n₀ i₀ : ℕ) (a₀ : Answer) (c : Contr
     pub scans : (o : Lent Reply) (k : ℕ) → Goes o k n₀ c₀ ss es l r g → Scans o k n c i ss es l r g
     pub polling : polls (c .phase) ≡ true
     pub count : n + i₀ ≡ n₀ + i
-    pub from : i₀ < 16
+    pub from : i₀ < slotTotal
     pub quiet : a ≡ a₀
 
 pub scan-begins :
-    (c : Control) (n i : ℕ) (a : Answer) (ss : List Slot) (es l r g : List ℕ) → polls (c .phase) ≡ true → i ≡ place (c .phase) → i < 16 →
+    (c : Control) (n i : ℕ) (a : Answer) (ss : List Slot) (es l r g : List ℕ) → polls (c .phase) ≡ true → i ≡ place (c .phase) → i < slotTotal →
     Scanned c n i a c n i a ss es l r g
 scan-begins c n i a ss es l r g q e b =
     record { scans = λ o k h. scan-start c i h q e; polling = q; count = refl; from = b; quiet = refl }
@@ -111,7 +111,7 @@ module _ {o : Lent Reply} {k n : ℕ} {a : Answer} {c : Control} {ss : List Slot
 
     -- a step that is no poll is made
     pub runs-stepped :
-        (i : ℕ) (d : Slot) (m : Moved) (l' r' g' : List ℕ) → i ≡ place (c .phase) → i < 16 →
+        (i : ℕ) (d : Slot) (m : Moved) (l' r' g' : List ℕ) → i ≡ place (c .phase) → i < slotTotal →
         lent m l' r' g' ≡ stepAt (c .phase) c (getD ss i d) (getD es i 0) l r g → underway (c .phase) ≡ true → polls (c .phase) ≡ false →
         length l' ≡ length l → length r' ≡ length r → length g' ≡ length g →
         Running o k (n + 1) a (m .control) (set ss i (m .slot)) (set es i (m .snapshot)) l' r' g' l₀ r₀ g₀
@@ -126,7 +126,7 @@ module _ {o : Lent Reply} {k n : ℕ} {a : Answer} {c : Control} {ss : List Slot
         }
 
 module _ {c₀ : Control} {n₀ i₀ : ℕ} {a₀ : Answer} {c : Control} {n i : ℕ} {a : Answer} {ss : List Slot} {es l r g : List ℕ}
-    (v : Scanned c₀ n₀ i₀ a₀ c n i a ss es l r g) (b : i < 16)
+    (v : Scanned c₀ n₀ i₀ a₀ c n i a ss es l r g) (b : i < slotTotal)
   where
     pub scan-on : holds (getD ss i noSlot) (getD es i 0) ≡ false → Scanned c₀ n₀ i₀ a₀ c (n + 1) (i + 1) a ss es l r g
     unfolding slotCount

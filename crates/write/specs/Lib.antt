@@ -1,5 +1,8 @@
+-- The rules, in the order to read them: the calls by number; one step; the beginnings; a run; every call; and a machine in its world.
+pub mod Numbers
 pub mod Steps
 pub mod Begins
 pub mod Scans
 pub mod Runs
 pub mod Machine
+pub mod World

@@ -6,6 +6,7 @@ use crate::slices;
 use crate::steps;
 use read::Control;
 use read::Job;
+use read::LOG_ROOM;
 use read::Phase;
 use read::Signs;
 use read::Slot;
@@ -24,8 +25,6 @@ ghost use Rattle.read.specs.Handles.{withDue};
 ghost use Rattle.read.specs.Calls.{lent};
 ghost use Rattle.write.specs.Steps.{at, withJob, polling, beginning};
 ghost use Rattle.write.specs.Begins.{writerSigns, stepSigns, appended as appendedRule, appendOn, columnOf, begun as begunRule, value as valueRule, taking as takingRule, opened as openedRule, openOn};
-
-const ROOM: usize = 256;
 
 // ---- what speaks against a writer's call, by its column in the table of admissions
 
@@ -136,7 +135,7 @@ fn appended(
         return value(0, c, stirred(s), e);
     }
     let n = c.length;
-    if n < ROOM {
+    if n < LOG_ROOM {
         slices::enlog(log, n, kind, key, amount);
         return value(0, phases::with_log(n + 1, c.swapped, c), s, e);
     }
@@ -150,7 +149,7 @@ fn is_full(c: Control) -> bool
     if c.first {
         return false;
     }
-    ROOM <= c.length
+    LOG_ROOM <= c.length
 }
 
 // Append: an operation, refused or made.

@@ -2,6 +2,7 @@
 use read::Control;
 use read::Job;
 use read::Phase;
+use read::SLOTS;
 use read::judge;
 ghost use mathlib.Core.Path.{_≡_};
 ghost use Prim.Native.Nat.{_+_, _-_};
@@ -9,9 +10,7 @@ ghost use Rattle.read.specs.Machine.{underway as underwayRule};
 ghost use Rattle.write.specs.Steps.{keeping, draining as drainingRule, polled as polledRule, polling as pollingRule, beginning as beginningRule, published as publishedRule, nextJob, lastPolling, lastSnapping};
 ghost use Rattle.write.specs.Steps.{at as atRule, withJob, withLog, copied as copiedRule, swappedOver, nulled as nulledRule, ended as endedRule, snapping, drained as drainedRule};
 
-const SLOTS: usize = 16;
-
-const LAST: usize = 15;
+const LAST: usize = SLOTS - 1;
 
 // ---- where the writer goes on
 

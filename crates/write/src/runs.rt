@@ -5,20 +5,19 @@ use read::Control;
 use read::Job;
 use read::Phase;
 use read::Reply;
+use read::SLOTS;
 use read::State;
 use read::admission;
 use table::Answer;
 ghost use mathlib.Core.Path.{_≡_};
 ghost use mathlib.Core.Bool.{true};
 ghost use Prim.Native.Nat.{_<_};
-ghost use Rattle.read.specs.Machine.{wholeControl};
+ghost use Rattle.read.specs.Machine.{slotTotal, wholeControl};
 ghost use Rattle.read.specs.Calls.{lent};
 ghost use Rattle.write.specs.Steps.{at, place as placeRule};
 ghost use Rattle.write.specs.Scans.{polls as pollsRule, scanningAt, stopAnswer, haltAnswer, stopControl, halted as haltedRule};
 ghost use Rattle.write.specs.Runs.{stepOn, runOn};
 ghost use Rattle.write.specs.Machine.{goingRule};
-
-const SLOTS: usize = 16;
 
 // The rows of the phases that poll, in the table of admissions.
 const POLL: usize = 2;
@@ -28,7 +27,7 @@ const LAST_POLL: usize = 11;
 // The slot that a step looks at.
 fn place(c: Control) -> usize
     requires { ⌜ wholeControl c ≡ true ⌝ }
-    ensures { λ r. ⌜ (r ≡ placeRule (c .phase)) × (r < 16) ⌝ }
+    ensures { λ r. ⌜ (r ≡ placeRule (c .phase)) × (r < slotTotal) ⌝ }
 {
     let p = c.phase;
     steps::place(p)

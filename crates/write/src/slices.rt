@@ -1,13 +1,13 @@
 // The lent words: what a step or an append does to the copy that the pointer does not name, and to the log.
+use read::LOG_ROOM;
 ghost use mathlib.Core.Path.{_≡_};
 ghost use Prim.Native.Nat.{_<_};
 ghost use lib.ListN.{getD, set};
 ghost use Rattle.table.specs.Copy.{zeros};
+ghost use Rattle.read.specs.Machine.{logRoom};
 ghost use Rattle.read.specs.Handles.{copyOf};
 ghost use Rattle.write.specs.Steps.{ofLeft, ofRight, operated, logApplied, over, unlogged};
 ghost use Rattle.write.specs.Begins.{logged};
-
-const ROOM: usize = 256;
 
 // A word of the log, or 0 behind its end.
 fn fetch(log: &[u64], i: usize) -> u64
@@ -23,7 +23,7 @@ fn fetch(log: &[u64], i: usize) -> u64
 fn apply_logged(w: &mut [u64], log: &[u64], i: usize)
     ensures { λ _. ⌜ now (w .exit) ≡ logApplied (now (log .entry)) i (now (w .entry)) ⌝ }
 {
-    if i < ROOM {
+    if i < LOG_ROOM {
         let at = 3 * i;
         let kind = fetch(log, at);
         let key = fetch(log, at + 1);
@@ -101,7 +101,7 @@ pub(crate) fn erase(side: bool, left: &mut [u64], right: &mut [u64])
 pub(crate) fn unlog(log: &mut [u64], n: usize)
     ensures { λ _. ⌜ now (log .exit) ≡ unlogged n (now (log .entry)) ⌝ }
 {
-    if n <= ROOM {
+    if n <= LOG_ROOM {
         if n == 0 {
             table::close_gap(log, 3, 0);
         } else {
@@ -120,7 +120,7 @@ fn put(log: &mut [u64], i: usize, x: u64)
 
 // An operation behind `n` others.
 pub(crate) fn enlog(log: &mut [u64], n: usize, kind: u64, key: u64, amount: u64)
-    requires { ⌜ n < 256 ⌝ }
+    requires { ⌜ n < logRoom ⌝ }
     ensures { λ _. ⌜ now (log .exit) ≡ logged n kind key amount (now (log .entry)) ⌝ }
 {
     let at = 3 * n;

@@ -9,7 +9,7 @@ use Rattle.table.specs.Seek.{seek}
 use Rattle.table.proofs.Seek.{seek-here, seek-next, seek-end}
 use Rattle.read.specs.declared.Due.the-variants.{Nothing}
 use Rattle.read.specs.declared.Slot.{Slot}
-use Rattle.read.specs.Machine.{slotCount, noSlot}
+use Rattle.read.specs.Machine.{slotTotal, slotCount, noSlot}
 use Rattle.read.specs.Calls.{firstFree}
 use Rattle.read.proofs.Cases.{used-past}
 use Rattle.read.proofs.first_free.Statement.{statement}
@@ -19,10 +19,10 @@ abbrev test : List Slot → ℕ → Bool
 test ss i = not (getD ss i noSlot .used)
 
 abbrev Inv-loop : tie.InvT-loop
-Inv-loop slots i₀ i = (i ≤ 16) × (firstFree slots ≡ seek (test slots) i (16 - i))
+Inv-loop slots i₀ i = (i ≤ slotTotal) × (firstFree slots ≡ seek (test slots) i (slotTotal - i))
 
 abbrev μ-loop : tie.MeasureT-loop
-μ-loop slots i₀ i = 16 - i
+μ-loop slots i₀ i = slotTotal - i
 
 loop-holds : tie.Need-loop-holds Inv-loop μ-loop
 unfolding slotCount
@@ -37,7 +37,7 @@ array-copy-out-s c = search needs
 returns : tie.Need-returns Inv-loop μ-loop
 returns c =
     let a = c .before .before .before .before .before .args in
-    let i = c .before .before .before .before .loop .i in sym (c .before .before .before .before .loop .inv .1 ∙ seek-here (test (a .t1)) i 16 (search needs) (ap not (used-past (a .t1) i noSlot (record { used = false; epoch = 0; guards = []; due = Nothing }) refl) ∙ c .if1 .taken))
+    let i = c .before .before .before .before .loop .i in sym (c .before .before .before .before .loop .inv .1 ∙ seek-here (test (a .t1)) i slotTotal (search needs) (ap not (used-past (a .t1) i noSlot (record { used = false; epoch = 0; guards = []; due = Nothing }) refl) ∙ c .if1 .taken))
 
 add-i : tie.Need-add-i Inv-loop μ-loop
 add-i c = search needs
@@ -48,12 +48,12 @@ loop-less c = search needs
 loop-again : tie.Need-loop-again Inv-loop μ-loop
 loop-again c =
     let a = c .before .before .before .before .before .args in
-    let i = c .before .before .before .before .loop .i in (search needs, c .before .before .before .before .loop .inv .1 ∙ seek-next (test (a .t1)) i 16 (search needs) (ap not (used-past (a .t1) i noSlot (record { used = false; epoch = 0; guards = []; due = Nothing }) refl) ∙ c .if1 .left))
+    let i = c .before .before .before .before .loop .i in (search needs, c .before .before .before .before .loop .inv .1 ∙ seek-next (test (a .t1)) i slotTotal (search needs) (ap not (used-past (a .t1) i noSlot (record { used = false; epoch = 0; guards = []; due = Nothing }) refl) ∙ c .if1 .left))
 
 returns-2 : tie.Need-returns-2 Inv-loop μ-loop
 returns-2 c =
     let a = c .before .before .args in
-    sym (c .before .loop .inv .1 ∙ seek-end (test (a .t1)) (c .before .loop .i) 16 (search needs))
+    sym (c .before .loop .inv .1 ∙ seek-end (test (a .t1)) (c .before .loop .i) slotTotal (search needs))
 
 pub first-free-spec : {M : Type 1} → statement M
 first-free-spec =

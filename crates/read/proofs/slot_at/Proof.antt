@@ -1,8 +1,8 @@
--- What owning the state gives (`good`) says that its array has 16 slots, so a read within is the rule's.
+-- What owning the state gives (`good`) says that its array has all slots, so a read within is the rule's.
 use mathlib.Core.Path.{_≡_, sym, _∙_}
 use borrow.Author.Needs.{needs}
 use lib.ListN.{length, length-map, List·getD-eq-default}
-use Rattle.read.specs.Machine.{noSlot}
+use Rattle.read.specs.Machine.{slotTotal, noSlot}
 use Rattle.read.proofs.Cases.{getD-within}
 use Rattle.read.proofs.slot_at.Statement.{statement}
 use Rattle.read.proofs.slot_at.Tie as tie
@@ -13,7 +13,7 @@ no-slot-requires c κs = search needs
 returns : tie.Need-returns
 returns c =
     let a = c .before .before .args in
-    let e : length (a .st .slots) ≡ 16 = sym (length-map (a .st .slots) _) ∙ c .before .before .good .0 .1 .1 .1 .0 .1 .0 .1 in
+    let e : length (a .st .slots) ≡ slotTotal = sym (length-map (a .st .slots) _) ∙ c .before .before .good .0 .1 .1 .1 .0 .1 .0 .1 in
     c .no-slot .ensures ∙ sym (List·getD-eq-default (a .st .slots) noSlot (rw e (c .before .if1 .taken)))
 
 mul-result : tie.Need-mul-result
@@ -25,7 +25,7 @@ array-copy-out-result c = search needs
 returns-2 : tie.Need-returns-2
 returns-2 c =
     let a = c .before .before .before .args in
-    let e : length (a .st .slots) ≡ 16 = sym (length-map (a .st .slots) _) ∙ c .before .before .before .good .0 .1 .1 .1 .0 .1 .0 .1 in
+    let e : length (a .st .slots) ≡ slotTotal = sym (length-map (a .st .slots) _) ∙ c .before .before .before .good .0 .1 .1 .1 .0 .1 .0 .1 in
     getD-within (a .st .slots) (a .slot) _ noSlot (rw e (c .before .before .if1 .left))
 
 pub slot-at-spec : {M : Type 1} → statement M

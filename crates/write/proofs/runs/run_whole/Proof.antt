@@ -5,6 +5,7 @@ use mathlib.Core.Path.{refl, sym, _∙_}
 use native.Mathlib.Omega.{arith}
 use borrow.Author.Needs.{needs}
 use lib.ListN.{getD, length-map}
+use Rattle.read.specs.Machine.{slotTotal}
 use Rattle.write.specs.Runs.{left as leftOf, runOn}
 use Rattle.write.proofs.Turns.{holds-there, Running, Scanned, scan-begins, scan-on, scan-ends, runs-scanned, runs-stepped}
 use Rattle.write.proofs.Control.{control-whole, whole-control}
@@ -16,7 +17,7 @@ abbrev Inv-loop : tie.InvT-loop
 Inv-loop left right log c₀ slots snaps n₀ answer₀ i₀ c n answer i = Scanned c₀ n₀ i₀ answer₀ c n i answer slots snaps left right log
 
 abbrev μ-loop : tie.MeasureT-loop
-μ-loop left right log c₀ slots snaps n₀ answer₀ i₀ c n answer i = 16 - i
+μ-loop left right log c₀ slots snaps n₀ answer₀ i₀ c n answer i = slotTotal - i
 
 abbrev Inv-steps : tie.InvT-steps
 Inv-steps left₀ right₀ log₀ c₀ slots₀ snaps₀ n₀ answer₀ left right log c slots snaps n answer =

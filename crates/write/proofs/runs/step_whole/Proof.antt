@@ -1,10 +1,10 @@
--- There are 16 slots, so the slot that is copied out is the rule's.
+-- The state has all slots, so the slot that is copied out is the rule's.
 use mathlib.Core.Path.{_≡_, sym, _∙_}
 use native.Mathlib.Omega.{arith}
 use borrow.Author.Needs.{needs}
 use lib.ListN.{length, length-map}
 use Rattle.read.proofs.Cases.{getD-within}
-use Rattle.read.specs.Machine.{noSlot}
+use Rattle.read.specs.Machine.{slotTotal, noSlot}
 use Rattle.write.proofs.Turns.{step-lifted}
 use Rattle.write.proofs.runs.step_whole.Statement.{statement}
 use Rattle.write.proofs.runs.step_whole.Tie as tie
@@ -51,7 +51,7 @@ same-length-3 c = search needs
 returns : tie.Need-returns
 returns c =
     let a = c .before .before .before .before .before .before .before .before .before .before .before .before .before .before .before .before .before .before .before .before .args in
-    let n : length (a .st .slots) ≡ 16 = sym (length-map (a .st .slots) _) ∙ c .before .before .before .before .before .before .before .before .before .before .before .before .before .before .before .before .before .before .before .before .good .0 .1 .1 .1 .0 .1 .0 .1 in
+    let n : length (a .st .slots) ≡ slotTotal = sym (length-map (a .st .slots) _) ∙ c .before .before .before .before .before .before .before .before .before .before .before .before .before .before .before .before .before .before .before .before .good .0 .1 .1 .1 .0 .1 .0 .1 in
     step-lifted (a .st) (a .left .now) (a .right .now) (a .log .now) (c .before .before .before .before .before .before .before .before .before .before .before .before .before .place .ensures .0)
     (getD-within (a .st .slots) (c .before .before .before .before .before .before .before .before .before .before .before .before .before .place .result) _ noSlot (omega (arith, c .before .before .before .before .before .before .before .before .before .before .before .before .before .place .ensures .1))) (c .before .before .before .before .before .before .before .before .advance .ensures)
 

@@ -5,18 +5,11 @@ use lib.Dec.{eqb, leb}
 use Rattle.table.specs.Copy.{lawful}
 use Rattle.read.specs.declared.Handle.{Handle}
 use Rattle.read.specs.declared.Handle.the-variants.{Drop, Enter, GoOn, Release, LookUp, WasDropped}
+use Rattle.read.specs.Admission.{handleNumber}
 use Rattle.write.specs.declared.Opening.{Opening}
 use Rattle.write.specs.declared.Opening.the-variants.{Publish, Try, Flush, Take}
 use Rattle.write.specs.declared.Call.{Call}
 use Rattle.write.specs.declared.Call.the-variants.{Create, On, Append, Open, Step, Run}
-
-abbrev pub handleNumber : Handle → ℕ
-handleNumber Drop = 2
-handleNumber Enter = 3
-handleNumber GoOn = 4
-handleNumber (Release j) = 5
-handleNumber (LookUp j key) = 6
-handleNumber WasDropped = 7
 
 abbrev pub openingNumber : Opening → ℕ
 openingNumber Publish = 9
