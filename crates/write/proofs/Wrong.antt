@@ -1,6 +1,6 @@
 -- Wrong programs, as definitions on the rules' values, and for each a proof that the contract's promise (`Promises`) is false of it: one
 -- call, on values that the source's types have, where what the program does wrong is read off.
-use Prim.Native.Nat.{ℕ, zero, suc, _+_, _-_, _%_, _^_}
+use Prim.Native.Nat.{ℕ, _+_, _-_, _%_, _^_}
 use mathlib.Core.Path.{refl}
 use mathlib.Core.Bool.{Bool, true, false, not, _&&_, _||_}
 use mathlib.Core.List.{List, [], _∷_, _++_}
@@ -29,7 +29,7 @@ use Rattle.write.specs.declared.Opening.the-variants as opening
 use Rattle.write.specs.declared.Call.the-variants as call
 use Rattle.write.specs.Steps.{at, withJob, withLog, swappedOver, draining, polling, beginning, lastPolling, holds, moved, refused, stopped, ofLeft, ofRight, operated, logApplied, over, unlogged, stepAt, place}
 use Rattle.write.specs.Begins.{writerSigns, madeAtOnce, appendFirst, appended, appendOn, columnOf, begun, value, opened}
-use Rattle.write.specs.Runs.{snapAt, putBack, lift, stepOn, left, goOn, steps}
+use Rattle.write.specs.Runs.{snapAt, putBack, lift, stepOn, enough, runWhile}
 use Rattle.write.specs.Machine.{going, callRule}
 use Rattle.table.proofs.Computes.{apart}
 use Rattle.table.proofs.Contracts.{Words, slice}
@@ -479,41 +479,32 @@ step-unjudged-wrong : StepPromise (going 12 stepOn) → ⊥
 unfolding rules
 step-unjudged-wrong h = apart answered refl (h (with1 (standing Swap Publish false false 0 0) noSlot 0) blankLog blank blankLog refl)
 
--- a run that says another value where it is held, of the steps that were left and those that were made
-abbrev heldSays : (ℕ → ℕ → ℕ) → Whole
+-- a run that says another value where it is held, of the steps that were made
+abbrev heldSays : (ℕ → ℕ) → Whole
 heldSays f st l r g =
     let o = callRule call.Run st l r g in
     let m = o .made in
     elim (eqb (number (m .answer)) 13) [
-      | true ↦ lent (record { answer = m .answer; value = f (left (st .control)) (m .value); state = m .state }) (o .left) (o .right) (o .log)
+      | true ↦ lent (record { answer = m .answer; value = f (m .value); state = m .state }) (o .left) (o .right) (o .log)
       | false ↦ o
     ]
 
 -- the step that is held is counted
-run-countsHeld-wrong : RunPromise (heldSays (λ k n. n + 1)) → ⊥
+run-countsHeld-wrong : RunPromise (heldSays (λ n. n + 1)) → ⊥
 unfolding rules
 run-countsHeld-wrong h = apart valued refl (h heldAt1 blank blank blankLog refl)
 
--- all that were left are said to be made
-run-inventsValue-wrong : RunPromise (heldSays (λ k n. k)) → ⊥
+-- a number that has nothing to do with them
+run-inventsValue-wrong : RunPromise (heldSays (λ n. 99)) → ⊥
 unfolding rules
 run-inventsValue-wrong h = apart valued refl (h heldAt1 blank blank blankLog refl)
 
 -- a run that makes one step
-run-oneStep-wrong : RunPromise (judging (going 13 (steps 1 0))) → ⊥
+run-oneStep-wrong : RunPromise (judging (going 13 (runWhile stepOn 1 0))) → ⊥
 unfolding rules
 run-oneStep-wrong h = apart phased refl (h (with1 (standing (Snap 14) Publish false false 0 0) noSlot 0) blank blank blankLog refl)
 
--- a run of at most k such steps, n being made before: until the call ends, or one is held or declined
-abbrev stepsBy : Part → ℕ → ℕ → Whole
-stepsBy f zero n st l r g = lent (record { answer = answer.Done; value = n; state = st }) l r g
-stepsBy f (suc k) n st l r g =
-    elim (underway (st .control .phase)) [
-      | true ↦ goOn (stepsBy f k (n + 1)) n (stepBy f st l r g)
-      | false ↦ lent (record { answer = answer.Done; value = n; state = st }) l r g
-    ]
-
 -- a run whose take polls by the last publish's snapshots: a reader that entered since is passed
-run-oldSnapshots-wrong : RunPromise (judging (going 13 (λ st l r g. stepsBy oldSnapshots (left (st .control)) 0 st l r g))) → ⊥
+run-oldSnapshots-wrong : RunPromise (judging (going 13 (runWhile (stepBy oldSnapshots) enough 0))) → ⊥
 unfolding rules
 run-oldSnapshots-wrong h = apart answered refl (h (with1 (standing Lock TakeFirst false false 0 0) inside 0) blank blank blankLog refl)
