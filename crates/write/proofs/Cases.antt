@@ -17,7 +17,7 @@ use Rattle.read.specs.declared.Control.{Control}
 use Rattle.read.specs.declared.Slot.{Slot}
 use Rattle.read.specs.declared.State.{State}
 use Rattle.read.specs.declared.Reply.{Reply}
-use Rattle.read.specs.Machine.{slotCount, logRoom, underway}
+use Rattle.read.specs.Machine.{standing, slotCount, logRoom, underway}
 use Rattle.read.specs.Calls.{Lent, lent}
 use Rattle.read.specs.Handles.{smallest}
 use Rattle.write.specs.declared.Moved.{Moved}
@@ -26,6 +26,10 @@ use Rattle.write.specs.Steps.{at, keeping, draining, polled, polling, be
 use Rattle.write.specs.Begins.{writerSigns, columnOf, logged, madeAtOnce, appendFirst, appended, appendOn, opened, openOn}
 use Rattle.write.specs.Runs.{afterStep, ranOut, runWhile}
 use Rattle.write.proofs.Verdicts.{judging, Refusal, refused-mild, admitted-unopposed, append-idle, open-idle}
+
+-- another job; the phase stays, with its lock
+abbrev pub withJob : Job → Control → Control
+withJob j c = standing (c .phase) j c
 
 -- ---- a test, by its value
 

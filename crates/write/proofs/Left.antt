@@ -19,10 +19,10 @@ use Rattle.read.specs.Machine.{slotCount, logRoom, underway, isGone}
 use Rattle.read.specs.Handles.{bit}
 use Rattle.read.specs.Calls.{Lent, lent}
 use Rattle.write.specs.declared.Moved.{Moved}
-use Rattle.write.specs.Steps.{at, withJob, withLog, copied, swappedOver, nextJob, keeping, draining, polled, polling, beginning, published, lastPolling, lastSnapping, snapping, holds, moved, refused, stopped, pollMove, lastPollMove, stepAt}
+use Rattle.write.specs.Steps.{at, withLog, copied, swappedOver, nextJob, keeping, draining, polled, polling, beginning, published, lastPolling, lastSnapping, snapping, holds, moved, refused, stopped, pollMove, lastPollMove, stepAt}
 use Rattle.write.specs.Scans.{polls, stopAnswer, haltAnswer}
 use Rattle.write.proofs.Count.{lastLeft, afterLeft, snapLeft, swapLeft, drainLeft, polledLeft, beginLeft, leftAt, left}
-use Rattle.write.proofs.Cases.{below, keeping-cases, draining-cases, polled-cases, polling-cases, beginning-cases, lastPolling-cases, lastSnapping-cases, snapping-cases}
+use Rattle.write.proofs.Cases.{withJob, below, keeping-cases, draining-cases, polled-cases, polling-cases, beginning-cases, lastPolling-cases, lastSnapping-cases, snapping-cases}
 use Rattle.write.proofs.Control.{Whole, Fits, fits}
 
 -- ---- the count, where the writer goes on

@@ -29,6 +29,7 @@ use Rattle.write.proofs.Count.{left, steps}
 use Rattle.write.proofs.Cases.{going-on}
 use Rattle.write.proofs.Control.{Placed, Whole, whole-step}
 use Rattle.write.proofs.Left.{step-answer, made-unless-polls, poll-passed, poll-stopped, lastPoll-passed, lastPoll-stopped, step-lowers, idle-left, underway-left, left-idle, left-underway, left-small}
+use Rattle.read.proofs.Cases.{withLock}
 
 abbrev pub stateOf : Control → List Slot → List ℕ → State
 stateOf c ss es = record { control = c; slots = ss; snapshots = es }
@@ -323,19 +324,7 @@ scanning-underway c i =
 
 -- a whole control part has the lock that its phase asks
 at-own : (c : Control) → Whole c → at (c .phase) c ≡ c
-at-own c w =
-    λ i.
-    record {
-      right = c .right;
-      null = c .null;
-      lock = sym (w .locked) i;
-      first = c .first;
-      second = c .second;
-      phase = c .phase;
-      job = c .job;
-      length = c .length;
-      swapped = c .swapped;
-    }
+at-own c w = λ i. withLock (sym (w .locked) i) c
 
 -- what a stop gives, slot and snapshot being put back
 stop-reply :
