@@ -11,14 +11,17 @@ fn main() {
     println!("cargo:rustc-check-cfg=cfg(proved)");
     println!("cargo:rerun-if-env-changed=LRT_LIB");
     if let Err(why) = link() {
-        println!("cargo:warning=no proved player, and what needs it is skipped: {why}");
+        println!("cargo:warning=what needs the proved player is skipped: {why}");
     }
 }
 
 fn library() -> PathBuf {
     match env::var_os("LRT_LIB") {
         Some(named) => PathBuf::from(named),
-        None => Path::new(env!("CARGO_MANIFEST_DIR")).join("../../target/staticlib/libplay.a"),
+        None => {
+            let root = Path::new(env!("CARGO_MANIFEST_DIR")).ancestors().nth(2).expect("host/lrt of the repository");
+            root.join("target/staticlib/libplay.a")
+        }
     }
 }
 
@@ -28,9 +31,10 @@ fn link() -> Result<(), String> {
         return Err("LRT_LIB is empty".to_string());
     }
     println!("cargo:rerun-if-changed={}", library.display());
-    let found = library.canonicalize().map_err(|_| {
-        format!("there is no {}; run: rt staticlib play (or let LRT_LIB name the static library)", library.display())
-    })?;
+    let path = library.display();
+    let found = library
+        .canonicalize()
+        .map_err(|_| format!("there is no {path}; to build it, run: rt staticlib play (LRT_LIB names another one)"))?;
     let machine = env::var("CARGO_CFG_TARGET_ARCH").unwrap_or_default();
     if machine != "x86_64" {
         return Err(format!("the static library is for x86-64, and this is built for {machine}; run: host/run"));

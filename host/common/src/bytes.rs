@@ -2,6 +2,10 @@
 
 use crate::{call, ENTRY, HEADER, MARK, RECORD, VERSION};
 
+/// Where the words of a record begin, behind call, slot, guard and kind.
+const KEY: usize = 4;
+const AMOUNT: usize = KEY + 8;
+
 /// One record of a schedule. Fields that its call does not use are ignored.
 #[derive(Clone, Copy, Debug, PartialEq, Eq)]
 pub struct Record {
@@ -34,16 +38,16 @@ impl Record {
             slot: bytes[1],
             guard: bytes[2],
             kind: bytes[3],
-            key: word(&bytes[4..12]),
-            amount: word(&bytes[12..RECORD]),
+            key: word(&bytes[KEY..AMOUNT]),
+            amount: word(&bytes[AMOUNT..RECORD]),
         }
     }
 
     pub fn to_bytes(&self) -> [u8; RECORD] {
         let mut bytes = [0; RECORD];
-        bytes[..4].copy_from_slice(&[self.call, self.slot, self.guard, self.kind]);
-        bytes[4..12].copy_from_slice(&self.key.to_le_bytes());
-        bytes[12..].copy_from_slice(&self.amount.to_le_bytes());
+        bytes[..KEY].copy_from_slice(&[self.call, self.slot, self.guard, self.kind]);
+        bytes[KEY..AMOUNT].copy_from_slice(&self.key.to_le_bytes());
+        bytes[AMOUNT..].copy_from_slice(&self.amount.to_le_bytes());
         bytes
     }
 }

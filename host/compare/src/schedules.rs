@@ -230,7 +230,7 @@ pub fn case(choose: &mut Random) -> Case {
     } else {
         records(choose)
     };
-    let spare = choose.pick(&[0, 0, 1, 8, 9, 100]);
+    let spare = choose.pick(&[0, 0, 1, ENTRY - 1, ENTRY, 100]);
     let mut case =
         Case { bytes: common::schedule(&records), room: records.len() * ENTRY + spare, shift: choose.below(8) };
     if damaged {

@@ -158,8 +158,8 @@ fn p7_take_on_a_fresh_machine() {
     assert_eq!(m.take(), says(DONE, 0));
     assert_eq!(m.run(), says(DONE, 1 + steps::FIRST_PUBLISH + steps::TAKE_END));
     assert_eq!(m.phase, Phase::Gone);
-    assert_eq!(m.slots[0].used, false);
-    assert_eq!(m.locked, false);
+    assert!(!m.slots[0].used);
+    assert!(!m.locked);
 }
 
 #[test]
@@ -468,7 +468,7 @@ fn the_smallest_refusal_wins() {
     for reply in [m.append(add(1, 1)), m.publish(), m.try_publish(), m.flush(), m.take()] {
         assert_eq!(reply, says(GUARDS_OPEN, 0));
     }
-    for guard in [2, 0, 3, 1] {
+    for guard in (0..GUARDS as u8).rev() {
         assert_eq!(m.release(0, guard), says(DONE, 0));
     }
     for slot in 1..SLOTS as u64 {
