@@ -37,7 +37,7 @@ use Rattle.table.proofs.Contracts.{Words, slice}
 use Rattle.write.proofs.Computes.{rules}
 use Rattle.write.proofs.Promises.{Part, Whole, Beginning, HoldsPromise, PlacePromise, OpenOnPromise, AdvancePromise, AppendOnPromise}
 use Rattle.write.proofs.Promises.{AppendPromise, StepPromise, RunPromise, PublishPromise, TryPromise, FlushPromise, TakePromise}
-use Rattle.read.proofs.Cases.{withLock}
+use Rattle.read.proofs.Cases.{stateOf, withLock}
 
 -- ---- what the witnesses are made of
 
@@ -52,7 +52,7 @@ inside = withReading 1 (set noGuards 0 (openOn false)) Nothing newSlot
 -- the writer's own slot first, then this one and free ones
 abbrev with1 : Control → Slot → ℕ → State
 with1 c s e =
-    record { control = c; slots = newSlot ∷ s ∷ replicate (slotCount - 2) noSlot; snapshots = 0 ∷ e ∷ replicate (slotCount - 2) 0 }
+    stateOf c (newSlot ∷ s ∷ replicate (slotCount - 2) noSlot) (0 ∷ e ∷ replicate (slotCount - 2) 0)
 
 -- a copy with no pairs, and one that has key 7
 abbrev blank : Words
