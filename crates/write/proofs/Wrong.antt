@@ -19,8 +19,7 @@ use Rattle.read.specs.declared.Control.{Control}
 use Rattle.read.specs.declared.Verdict.the-variants.{Admitted, Refused}
 use Rattle.read.specs.declared.State.{State}
 use Rattle.read.specs.declared.Reply.{Reply}
-use Rattle.read.specs.Machine.{standing, holding, freshControl, openOn, withReading, slotCount, logRoom, logWords, noGuards, noSlot, newSlot, underway, nulls, judged, fresh}
-use Rattle.read.specs.Admission.{row}
+use Rattle.read.specs.Machine.{standing, holding, freshControl, openOn, withReading, slotCount, logRoom, logWords, noGuards, noSlot, newSlot, underway, nulls, judged, fresh, row}
 use Rattle.read.specs.Handles.{smallest, freed, copyOf, bit}
 use Rattle.read.specs.Calls.{Lent, lent, slotAt, refusal}
 use Rattle.write.specs.declared.Moved.{Moved}
