@@ -26,7 +26,7 @@ use Rattle.read.specs.Machine.{withReading, slotCount, newSlot, fresh, l
 use Rattle.read.specs.Handles.{copyOf, guardedCopy, bumped, withDue, guarded, loaded, entered, released, lacksRoom, smallest, handleSigns, handled, handleOn}
 use Rattle.read.specs.Calls.{slotAt, withSlot, refusal, lent, firstFree, createSigns, handleReply, handleRule, createReply, createRule, throughGuard, throughRule, startRule}
 use Rattle.read.proofs.Tests.{and-left, and-right, and-false}
-use Rattle.read.proofs.Verdicts.{refused-admitted, admitted-clear}
+use Rattle.read.proofs.Verdicts.{refused-not, admitted-unopposed}
 
 -- a state by its parts
 abbrev pub stateOf : Control → List Slot → List ℕ → State
@@ -177,8 +177,8 @@ module _ (c : Control) (l r g : List ℕ) where
       split (sized l r g)
       (λ s. split (leb (entries l) pairs && (leb (entries r) pairs && wholeControl c))
       (λ w. omega (arith, sized-lengths l r g s, whole-length c (and-right (leb (entries r) pairs) (wholeControl c) (and-right (leb (entries l) pairs) _ w))))
-      (λ w. absurd (refused-admitted answer.Broken (sym (glanced-broken s w) ∙ e))))
-      (λ s. absurd (refused-admitted answer.Length (sym (glanced-length s) ∙ e)))
+      (λ w. refused-not (sym (glanced-broken s w) ∙ e)))
+      (λ s. refused-not (sym (glanced-length s) ∙ e))
 
 -- ---- slots
 
@@ -239,7 +239,7 @@ module _ (i : ℕ) (st : State) where
 
   -- where it is made, the slot is there
   pub create-room : smallest (createSigns (st .control) i) ≡ Admitted → i < slotCount
-  create-room e = leb-false slotCount i (admitted-clear (createSigns (st .control) i) e .«slots_full»)
+  create-room e = leb-false slotCount i (admitted-unopposed (createSigns (st .control) i) e .1 .0)
 
 module _ (l r g : List ℕ) (st : State) where
   pub new-refused : (a : Answer) → judged (st .control) l r g ≡ Refused a → createRule l r g st ≡ refusal a st

@@ -1,7 +1,7 @@
 -- What a call on a handle does: to its own slot alone, judged by the control part and that slot.
 use Prim.Native.Nat.{ℕ, _+_, _%_, _^_}
 use mathlib.Core.Bool.{Bool, true, false, not, _&&_, _||_}
-use mathlib.Core.List.{List}
+use mathlib.Core.List.{List, [], _∷_}
 use lib.ListN.{getD}
 use lib.Dec.{eqb}
 use Rattle.table.specs.Copy.{lookRule}
@@ -16,28 +16,24 @@ use Rattle.read.specs.declared.Handle.{Handle}
 use Rattle.read.specs.declared.Handle.the-variants.{Drop, Enter, GoOn, Release, LookUp, WasDropped}
 use Rattle.read.specs.declared.Verdict.{Verdict}
 use Rattle.read.specs.declared.Verdict.the-variants.{Admitted, Refused}
-use Rattle.read.specs.declared.Signs.{Signs}
 use Rattle.read.specs.declared.Made.{Made}
 use Rattle.read.specs.Machine.{shut, openOn, withUse, withReading, isOpen, standsRight, putGuard, firstGuard, anyOpen, allOpen, isDue, isLoad}
 use Rattle.read.specs.Admission.{column, entry}
 
 -- ---- which refusal is given
 
-abbrev pub given : Bool → Answer → Verdict → Verdict
-given sign a otherwise = elim sign [ true ↦ Refused a | false ↦ otherwise ]
+-- what speaks against a call: a refusal, and whether it applies
+pub record Sign : Type 0 where
+  pub answer : Answer
+  pub applies : Bool
 
--- the smallest number whose sign is set
-unfoldable pub smallest : Signs → Verdict
-smallest s =
-    given (s .gone) answer.Gone
-    (given (s .«no_slot») answer.NoSlot
-    (given (s .operation) answer.Operation
-    (given (s .«not_now») answer.NotNow
-    (given (s .locked) answer.Locked
-    (given (s .«guards_open») answer.GuardsOpen
-    (given (s .«no_guard») answer.NoGuard
-    (given (s .«four_guards») answer.FourGuards
-    (given (s .«log_full») answer.LogFull (given (s .«slots_full») answer.SlotsFull Admitted)))))))))
+abbrev pub sign : Answer → Bool → Sign
+sign a b = record { answer = a; applies = b }
+
+-- the first that applies; those of a call stand in the order of their numbers, so it is the smallest
+unfoldable pub smallest : List Sign → Verdict
+smallest [] = Admitted
+smallest (x ∷ xs) = elim (x .applies) [ true ↦ Refused (x .answer) | false ↦ smallest xs ]
 
 -- enter or drop with a step due; go on with none
 abbrev pub mistimed : Handle → Due → Bool
@@ -76,21 +72,16 @@ lacksRoom (LookUp g key) null s = false
 lacksRoom WasDropped null s = false
 
 -- what speaks against a call; own: on slot 0
-abbrev pub handleSigns : Control → Bool → Slot → Handle → Signs
+abbrev pub handleSigns : Control → Bool → Slot → Handle → List Sign
 handleSigns c own s h =
     let e = entry (c .phase) (column h own) in
-    record {
-      gone = false;
-      «no_slot» = not (s .used);
-      operation = false;
-      «not_now» = eqb e 6 || mistimed h (s .due);
-      locked = eqb e 7;
-      «guards_open» = leavesGuards h (s .guards);
-      «no_guard» = lacksGuard h (s .guards);
-      «four_guards» = lacksRoom h (c .null) s;
-      «log_full» = false;
-      «slots_full» = false;
-    }
+    sign answer.NoSlot (not (s .used))
+    ∷ sign answer.NotNow (eqb e 6 || mistimed h (s .due))
+    ∷ sign answer.Locked (eqb e 7)
+    ∷ sign answer.GuardsOpen (leavesGuards h (s .guards))
+    ∷ sign answer.NoGuard (lacksGuard h (s .guards))
+    ∷ sign answer.FourGuards (lacksRoom h (c .null) s)
+    ∷ []
 
 -- ---- what is done
 

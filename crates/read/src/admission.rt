@@ -5,6 +5,11 @@ ghost use mathlib.Core.Path.{_≡_};
 ghost use Rattle.read.specs.Admission.{column as columnRule, entry as entryRule};
 ghost use Rattle.read.specs.Machine.{row as rowRule};
 
+// What the entries say: not now, locked.
+pub const NOT_NOW: u8 = 6;
+
+pub const LOCKED: u8 = 7;
+
 // A row for each phase, a column for each call 1 to 14, and for calls 2 to 7 on slot 0 another: 0 is admitted, 6 not now, 7 locked.
 // After gone the writer's calls have no entry of their own: they are answered 3, which is smaller than what stands there.
 const ADMITS: [[u8; 20]; 14] = [
@@ -58,7 +63,7 @@ pub fn entry(p: Phase, column: usize) -> u8
 }
 
 // The column of a call on a handle; `own`: on slot 0.
-pub fn column(h: Handle, own: bool) -> usize
+pub(crate) fn column(h: Handle, own: bool) -> usize
     ensures { λ r. ⌜ r ≡ columnRule h own ⌝ }
 {
     if own {

@@ -5,7 +5,6 @@ use crate::GUARDS;
 use crate::Guard;
 use crate::Handle;
 use crate::Made;
-use crate::Signs;
 use crate::Slot;
 use crate::Verdict;
 use crate::admission;
@@ -16,7 +15,7 @@ ghost use mathlib.Core.Path.{_≡_};
 ghost use mathlib.Core.Bool.{Bool};
 ghost use lib.ListN.{getD};
 ghost use Rattle.table.specs.Copy.{lookRule};
-ghost use Rattle.read.specs.Handles.{mistimed as mistimedRule, leavesGuards, lacksGuard, lacksRoom, handleSigns, copyOf, guardedCopy, bit as bitRule, handled, handleOn};
+ghost use Rattle.read.specs.Handles.{mistimed as mistimedRule, leavesGuards, lacksGuard, lacksRoom, smallest, handleSigns, copyOf, guardedCopy, bit as bitRule, handled, handleOn};
 
 // Enter or drop with a step due, or go on with none.
 fn mistimed(h: Handle, d: Due) -> bool
@@ -79,30 +78,33 @@ fn lacks_room(h: Handle, null: bool, s: Slot) -> bool
     }
 }
 
-// What speaks against a call; `own`: on slot 0.
-pub fn signs(c: Control, own: bool, s: Slot, h: Handle) -> Signs
-    ensures { λ r. ⌜ r ≡ handleSigns c own s h ⌝ }
+// What speaks against a call; `own`: on slot 0. The smallest number is given.
+pub(crate) fn verdict(c: Control, own: bool, s: Slot, h: Handle) -> Verdict
+    ensures { λ r. ⌜ r ≡ smallest (handleSigns c own s h) ⌝ }
 {
     let p = c.phase;
-    let e = admission::entry(p, admission::column(h, own));
     let d = s.due;
     let g = s.guards;
-    let early = mistimed(h, d);
-    let left = leaves_guards(h, g);
-    let lacking = lacks_guard(h, g);
-    let crowded = lacks_room(h, c.null, s);
-    Signs {
-        gone: false,
-        no_slot: !s.used,
-        operation: false,
-        not_now: judge::either(e == 6, early),
-        locked: e == 7,
-        guards_open: left,
-        no_guard: lacking,
-        four_guards: crowded,
-        log_full: false,
-        slots_full: false,
+    let e = admission::entry(p, admission::column(h, own));
+    if !s.used {
+        return Verdict::Refused(Answer::NoSlot);
     }
+    if judge::either(e == admission::NOT_NOW, mistimed(h, d)) {
+        return Verdict::Refused(Answer::NotNow);
+    }
+    if e == admission::LOCKED {
+        return Verdict::Refused(Answer::Locked);
+    }
+    if leaves_guards(h, g) {
+        return Verdict::Refused(Answer::GuardsOpen);
+    }
+    if lacks_guard(h, g) {
+        return Verdict::Refused(Answer::NoGuard);
+    }
+    if lacks_room(h, c.null, s) {
+        return Verdict::Refused(Answer::FourGuards);
+    }
+    Verdict::Admitted
 }
 
 fn bit(b: bool) -> u64
@@ -112,7 +114,7 @@ fn bit(b: bool) -> u64
 }
 
 // The copy that guard `j` stands on.
-pub fn guarded_copy<'a>(
+pub(crate) fn guarded_copy<'a>(
     g: [Guard; GUARDS],
     j: usize,
     left: &'a [u64],
@@ -191,7 +193,7 @@ pub fn handle<'a>(
 ) -> Made
     ensures { λ r. ⌜ r ≡ handleOn c own s h (now (left .entry)) (now (right .entry)) ⌝ }
 {
-    let v = judge::smallest(signs(c, own, s, h));
+    let v = verdict(c, own, s, h);
     match v {
         Verdict::Refused(a) => Made {
             answer: a,

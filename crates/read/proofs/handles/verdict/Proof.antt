@@ -1,0 +1,121 @@
+-- The tests in the order of the signs.
+use mathlib.Core.Bool.{_||_}
+use mathlib.Core.Path.{_≡_, refl, sym, ap, _∙_}
+use borrow.Author.Needs.{needs}
+use borrow.Author.Tests.{eq-eqb, ne-eqb}
+use lib.Dec.{eqb}
+use Rattle.read.specs.Admission.{column, entry}
+use Rattle.read.specs.Handles.{mistimed}
+use Rattle.read.proofs.Verdicts.{first-here, first-on, first-none}
+use Rattle.read.proofs.handles.verdict.Statement.{statement}
+use Rattle.read.proofs.handles.verdict.Tie as tie
+
+column-requires : tie.Need-column-requires
+column-requires c κs = search needs
+
+entry-requires : tie.Need-entry-requires
+entry-requires c κs = search needs
+
+-- the entry of the table
+entry-is : (x : tie.After-entry) → (let a = x .before .before .before .args in x .entry .result ≡ entry (a .c .phase) (column (a .h) (a .own)))
+entry-is x = x .entry .ensures ∙ ap (entry (x .before .before .before .args .c .phase)) (x .before .column .ensures)
+
+returns : tie.Need-returns
+returns c = first-here _ _ _ (c .if1 .taken) refl
+
+mistimed-requires : tie.Need-mistimed-requires
+mistimed-requires c κs = search needs
+
+either-requires : tie.Need-either-requires
+either-requires c κs = search needs
+
+-- not now, by the table or by what is due
+late-is : (x : tie.After-either) →
+    (let a = x .before .before .before .before .before .before .before .args in
+    x .either .result ≡ (eqb (entry (a .c .phase) (column (a .h) (a .own))) 6 || mistimed (a .h) (a .s .due)))
+late-is x = x .either .ensures ∙ (λ i. eqb (entry-is (x .before .before .before .before) i) 6 || x .before .mistimed .ensures i)
+
+returns-2 : tie.Need-returns-2
+returns-2 c =
+    first-on _ _ _ (c .before .before .before .if1 .left) (first-here _ _ _ (sym (late-is (c .before)) ∙ c .if2 .taken) refl)
+
+returns-3 : tie.Need-returns-3
+returns-3 c =
+    let y = c .before in
+    first-on _ _ _ (y .before .before .before .if1 .left)
+    (first-on _ _ _ (sym (late-is (y .before)) ∙ y .if2 .left)
+    (first-here _ _ _ (eq-eqb _ 7 (sym (entry-is (y .before .before .before .before .before)) ∙ c .if3 .taken)) refl))
+
+leaves-guards-requires : tie.Need-leaves-guards-requires
+leaves-guards-requires c κs = search needs
+
+returns-4 : tie.Need-returns-4
+returns-4 c =
+    let t = c .before .before in
+    let y = t .before in
+    first-on _ _ _ (y .before .before .before .if1 .left)
+    (first-on _ _ _ (sym (late-is (y .before)) ∙ y .if2 .left)
+    (first-on _ _ _ (ne-eqb _ 7 (λ z. t .if3 .left (entry-is (y .before .before .before .before .before) ∙ z)))
+    (first-here _ _ _ (sym (c .before .leaves-guards .ensures) ∙ c .if4 .taken) refl)))
+
+lacks-guard-requires : tie.Need-lacks-guard-requires
+lacks-guard-requires c κs = search needs
+
+returns-5 : tie.Need-returns-5
+returns-5 c =
+    let u = c .before .before in
+    let t = u .before .before in
+    let y = t .before in
+    first-on _ _ _ (y .before .before .before .if1 .left)
+    (first-on _ _ _ (sym (late-is (y .before)) ∙ y .if2 .left)
+    (first-on _ _ _ (ne-eqb _ 7 (λ z. t .if3 .left (entry-is (y .before .before .before .before .before) ∙ z)))
+    (first-on _ _ _ (sym (u .before .leaves-guards .ensures) ∙ u .if4 .left)
+    (first-here _ _ _ (sym (c .before .lacks-guard .ensures) ∙ c .if5 .taken) refl))))
+
+lacks-room-requires : tie.Need-lacks-room-requires
+lacks-room-requires c κs = search needs
+
+returns-6 : tie.Need-returns-6
+returns-6 c =
+    let w = c .before .before in
+    let u = w .before .before in
+    let t = u .before .before in
+    let y = t .before in
+    first-on _ _ _ (y .before .before .before .if1 .left)
+    (first-on _ _ _ (sym (late-is (y .before)) ∙ y .if2 .left)
+    (first-on _ _ _ (ne-eqb _ 7 (λ z. t .if3 .left (entry-is (y .before .before .before .before .before) ∙ z)))
+    (first-on _ _ _ (sym (u .before .leaves-guards .ensures) ∙ u .if4 .left)
+    (first-on _ _ _ (sym (w .before .lacks-guard .ensures) ∙ w .if5 .left)
+    (first-here _ _ _ (sym (c .before .lacks-room .ensures) ∙ c .if6 .taken) refl)))))
+
+returns-7 : tie.Need-returns-7
+returns-7 c =
+    let w = c .before .before in
+    let u = w .before .before in
+    let t = u .before .before in
+    let y = t .before in
+    first-on _ _ _ (y .before .before .before .if1 .left)
+    (first-on _ _ _ (sym (late-is (y .before)) ∙ y .if2 .left)
+    (first-on _ _ _ (ne-eqb _ 7 (λ z. t .if3 .left (entry-is (y .before .before .before .before .before) ∙ z)))
+    (first-on _ _ _ (sym (u .before .leaves-guards .ensures) ∙ u .if4 .left)
+    (first-on _ _ _ (sym (w .before .lacks-guard .ensures) ∙ w .if5 .left)
+    (first-on _ _ _ (sym (c .before .lacks-room .ensures) ∙ c .if6 .left) (first-none refl))))))
+
+pub verdict-spec : {M : Type 1} → statement M
+verdict-spec =
+    tie.close
+    (tie.spec
+    column-requires
+    entry-requires
+    returns
+    mistimed-requires
+    either-requires
+    returns-2
+    returns-3
+    leaves-guards-requires
+    returns-4
+    lacks-guard-requires
+    returns-5
+    lacks-room-requires
+    returns-6
+    returns-7)
