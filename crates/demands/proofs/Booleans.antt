@@ -1,5 +1,5 @@
 -- Small facts of booleans.
-use mathlib.Core.Path.{_≡_, refl, sym, _∙_}
+use mathlib.Core.Path.{_≡_, refl, sym, ap, _∙_}
 use mathlib.Core.Bool.{Bool, true, false, not, _&&_, _||_, true≢false}
 
 pub clash : {C : Type 0} {b : Bool} → b ≡ true → b ≡ false → C
@@ -16,6 +16,9 @@ or-false false b e = (refl, e)
 pub and-false : (b : Bool) → (b && false) ≡ false
 and-false true = refl
 and-false false = refl
+
+pub or-first : {a : Bool} (b : Bool) → a ≡ true → (a || b) ≡ true
+or-first b e = ap (λ (x : Bool). x || b) e
 
 pub or-true : (b : Bool) → (b || true) ≡ true
 or-true true = refl

@@ -1,4 +1,5 @@
 -- The account and the machine stay alike, so the machine answers what the table says.
+pub mod Moves
 pub mod Plan
 pub mod Beginnings
 pub mod Control

@@ -1,9 +1,8 @@
 -- Demand 3, and what else follows: who delays a publish, when it ends, and how long a guard stays.
-pub mod OtherCalls
 pub mod Admitted
 pub mod RunIsSteps
 pub mod Counts
-pub mod Early
+pub mod Kept
 pub mod Always
 pub mod Named
 pub mod Stays

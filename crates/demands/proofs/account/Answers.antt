@@ -30,13 +30,13 @@ use Rattle.write.specs.declared.Call.the-variants.{Create, On, Append, Open, St
 use Rattle.write.specs.Begins.{writerSigns, stepSigns, columnOf}
 use Rattle.write.proofs.Control.{Whole}
 use Rattle.demands.specs.Account.{Account, unswapped, inside}
-use Rattle.demands.specs.Table.{Row, row, least, whatComesBack, wanted, busy, lockHeld, meetsReader}
+use Rattle.demands.specs.Table.{least, whatComesBack, wanted, busy, lockHeld, meetsReader}
 use Rattle.demands.proofs.shown.Invariant.{Shape, outside, announced, inside as entered}
 use Rattle.demands.proofs.shown.Guards.{all-shut}
 use Rattle.demands.proofs.Phases.{underway-stays}
 use Rattle.demands.proofs.account.Control.{SteersOf, Stands}
 use Rattle.demands.proofs.account.Reader.{Reads, is-inside, is-lowest, misses, answer15}
-use Rattle.demands.proofs.account.Rows.{Agree, none as no-more, same, here, agree-least, signRows, answerNo, rows-least, or-nil, entry-6, entry-7, entry-create, entry-step, entry-append, busy-is, lock-is}
+use Rattle.demands.proofs.account.Rows.{Agree, none as no-more, same, here, agree-least, signRows, answerNo, rows-least, or-nil, entry-6, entry-7, entry-create, entry-step, entry-append, busy-is, lock-is, Row, row}
 use Rattle.demands.proofs.Booleans.{clash, and-false}
 
 -- ---- tests

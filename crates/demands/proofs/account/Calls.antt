@@ -31,6 +31,7 @@ use Rattle.read.specs.Calls.{Lent, lent, slotAt, withSlot, createSigns, firstFr
 use Rattle.write.specs.declared.Moved.{Moved}
 use Rattle.write.specs.declared.Opening.{Opening}
 use Rattle.write.specs.declared.Opening.the-variants as opening
+use Rattle.read.specs.Admission.{handleNumber}
 use Rattle.write.specs.declared.Call.{Call}
 use Rattle.write.specs.declared.Call.the-variants.{Create, On, Append, Open, Step, Run}
 use Rattle.read.specs.declared.Job.the-variants as job
@@ -42,7 +43,7 @@ use Rattle.write.proofs.Cases.{by, below}
 use Rattle.write.proofs.Verdicts.{judging, Unopposed, admitted-unopposed, Refusal, refused-mild, append-idle, open-idle}
 use Rattle.write.proofs.Control.{Whole, some-slot}
 use Rattle.write.specs.World.{World, worldOf, reply, answerOf, valueOf}
-use Rattle.demands.specs.Account.{Reader, Account, withAt, created, turned, spoke, unswapped, unpublished, accepts, ofStore, ofReader, missed, withPlan, noted}
+use Rattle.demands.specs.Account.{Reader, Account, withAt, newReader, turned, spoke, unswapped, unpublished, accepts, ofStore, ofReader, missed, withPlan, noted}
 use Rattle.write.specs.Numbers.{isRun}
 use Rattle.demands.specs.Table.{wanted, wantedValue, worth, worthOn}
 use Rattle.demands.proofs.shown.Invariant.{seenOf, Quiet, ViewOf, Inv}
@@ -59,7 +60,7 @@ use Rattle.demands.proofs.account.Control.{SteersOf, Stands, flush-stee
 use Rattle.demands.proofs.account.Reader.{Reads, misses, answer15, Met, handled-met}
 use Rattle.demands.proofs.account.Rows.{answerNo}
 use Rattle.demands.proofs.account.Answers.{wanted-on, wanted-past, wanted-create, wanted-append, wanted-open}
-use Rattle.demands.proofs.Booleans.{clash, or-false}
+use Rattle.demands.proofs.Booleans.{clash, or-false, and-false}
 
 abbrev pub ReadsAll : Account → State → Type 0
 ReadsAll a st = (i : ℕ) → Reads (a .readers i) (slotAt st i) (snapAt st i)
@@ -144,7 +145,9 @@ noted-refused : (k : Call) (a : Account) → isRun k ≡ false → (n : ℕ) →
 noted-refused k a q zero lt le = absurd (omega arith)
 noted-refused Create a q (suc n) lt le = refl
 noted-refused (On i h) a q (suc n) lt le =
-    ap (λ (b : Bool). ofReader i (λ r. elim b [ true ↦ missed h r | false ↦ r ]) a) (ne-eqb (suc n) 15 (λ z. omega arith)) ∙ self-noted i a
+    let other : (eqb (handleNumber h) 4 && eqb (suc n) 15) ≡ false =
+    ap (λ (b : Bool). eqb (handleNumber h) 4 && b) (ne-eqb (suc n) 15 (λ z. omega arith)) ∙ and-false (eqb (handleNumber h) 4) in
+    ap (λ (b : Bool). ofReader i (λ r. elim b [ true ↦ missed r | false ↦ r ]) a) other ∙ self-noted i a
 noted-refused (Append kind key amount) a q (suc n) lt le = refl
 noted-refused (Open o) a q (suc n) lt le = refl
 noted-refused Step a q (suc n) lt le = ap (λ (b : Bool). elim b [ true ↦ withPlan (a .trial) [] a | false ↦ a ]) (ne-eqb (suc n) 14 (λ z. omega arith))
@@ -201,10 +204,10 @@ module _ {w : World} {a : Account} (tie : Tie w a) where
       record {
         answer = sym z;
         value = value-done a Create (firstFree (w .state .slots)) z free;
-        inv = slot-inv (firstFree (w .state .slots)) (leb-false slotCount (firstFree (w .state .slots)) (admitted-unopposed (createSigns c (firstFree (w .state .slots))) v .slots)) (created (a .readers (firstFree (w .state .slots)))) newSlot
+        inv = slot-inv (firstFree (w .state .slots)) (leb-false slotCount (firstFree (w .state .slots)) (admitted-unopposed (createSigns c (firstFree (w .state .slots))) v .slots)) (newReader (a .readers (firstFree (w .state .slots)))) newSlot
             (λ _ _. record { idle = refl; alone = none-open }) new-view;
         steers = tie .steers;
-        reads = slot-reads (w .state) a len (tie .reads) (firstFree (w .state .slots)) (leb-false slotCount (firstFree (w .state .slots)) (admitted-unopposed (createSigns c (firstFree (w .state .slots))) v .slots)) (created (a .readers (firstFree (w .state .slots)))) newSlot
+        reads = slot-reads (w .state) a len (tie .reads) (firstFree (w .state .slots)) (leb-false slotCount (firstFree (w .state .slots)) (admitted-unopposed (createSigns c (firstFree (w .state .slots))) v .slots)) (newReader (a .readers (firstFree (w .state .slots)))) newSlot
             (record { lives = refl; due = refl; guards = new-shut; epoch = refl; snapshot = tie .reads (firstFree (w .state .slots)) .snapshot });
       })
       (λ x v. mild-right Create refl x (refused-mild (createSigns c (firstFree (w .state .slots))) x v) (want ∙ ap (λ y. answerNo y 0) v) (w .state) refl)

@@ -22,7 +22,7 @@ use Rattle.write.specs.Steps.{at, withJob, swappedOver, nextJob, keeping, drain
 use Rattle.write.specs.Begins.{taking, opened}
 use Rattle.write.proofs.Cases.{by, below, keeping-cases, draining-cases, polled-cases, polling-cases, beginning-cases, lastPolling-cases, lastSnapping-cases, snapping-cases}
 use Rattle.write.proofs.Control.{Whole, Fits, fits}
-use Rattle.demands.specs.Account.{Move, null, Store, unswapped, isOdd, Account, withPlan, moved, advanced, swapped, asked, begins as openingOf}
+use Rattle.demands.specs.Account.{Move, null, Store, unswapped, isOdd, Account, withPlan, makes, advanced, onSwap, asked, begins as openingOf}
 use Rattle.write.specs.Numbers.{isTry}
 use Rattle.demands.proofs.account.Plan.{moveOf, plan, step-plan, not-made}
 use Rattle.demands.proofs.account.Beginnings.{Known, publish-known, try-known, take-known}
@@ -180,7 +180,7 @@ snapping-steers t {trial} {taken} {gone} c k f s d n j a b q =
 
 module _ (a : Account) (c : Control) (h : SteersOf a c) (w : Whole c) (early : c .first ≡ true → c .length ≡ 0) (s : Slot) (e : ℕ) where
   abbrev After : Phase → Moved → Type 0
-  After p m = SteersOf (moved (moveOf p) (withPlan (a .trial) (plan (m .control)) a)) (m .control)
+  After p m = SteersOf (makes (moveOf p) (withPlan (a .trial) (plan (m .control)) a)) (m .control)
 
   abbrev At : Phase → Type 0
   At p = Stands (c .length) (c .swapped) (a .store .inLog) (a .store .swapIndex) (a .trial) (a .gone) p
@@ -222,7 +222,7 @@ module _ (a : Account) (c : Control) (h : SteersOf a c) (w : Whole c) (early : c
         }
     after-at (Keep k) x z f = goes c h (keeping (c .length) (k + 1)) (onto (x .over) (st-keeping (c .length) (c .swapped) (a .store .inLog) (a .store .swapIndex) (a .trial) (k + 1) (x .log .0) (x .log .1)))
     after-at Swap x z f =
-        snapping-steers (swapped (a .store)) (swappedOver c) 0 (sym (eqb·suc-zero (a .store .swaps))) (h .second) (ap not (h .side) ∙ odd-next (a .store .swaps)) (h .null) (h .tries) (x .log .1) (x .log .1)
+        snapping-steers (onSwap (a .store)) (swappedOver c) 0 (sym (eqb·suc-zero (a .store .swaps))) (h .second) (ap not (h .side) ∙ odd-next (a .store .swaps)) (h .null) (h .tries) (x .log .1) (x .log .1)
         (x .over)
     after-at (Snap k) x z f =
         snapping-steers (a .store) c (k + 1) (h .first) (h .second) (h .side) (h .null) (h .tries) (x .log .0) (x .log .1) (x .over)

@@ -29,8 +29,8 @@ use Rattle.write.proofs.Cases.{by}
 use Rattle.write.proofs.Verdicts.{judging, admitted-unopposed, refused-mild}
 use Rattle.write.proofs.NeverBroken.{sound-judged, sound-fresh}
 use Rattle.write.specs.World.{World, freshWorld, reply, next, answerOf, valueOf}
-use Rattle.demands.specs.Account.{Reader, Account, freshAccount, created, nobody, stopped, advanced, ran, noted}
-use Rattle.demands.specs.Table.{row, least, busy, wanted}
+use Rattle.demands.specs.Account.{Reader, Account, freshAccount, newReader, nobody, advanced, ran, noted}
+use Rattle.demands.specs.Table.{least, busy, wanted}
 use Rattle.write.specs.Numbers.{isRun}
 use Rattle.demands.specs.Demands.{Unused as UnusedIn, Told, tell, telling, told, Runs, Shows, HandsOver, Demands}
 use Rattle.demands.specs.Demands.{afterSteps as steppedWorld}
@@ -47,7 +47,7 @@ use Rattle.demands.proofs.delay.RunIsSteps.{run-is-steps-sound}
 use Rattle.demands.proofs.shown.Unused.{Unused, fresh-unused, call-unused}
 use Rattle.demands.proofs.account.Control.{Stands}
 use Rattle.demands.proofs.account.Reader.{Reads}
-use Rattle.demands.proofs.account.Rows.{answerNo, busy-is}
+use Rattle.demands.proofs.account.Rows.{answerNo, busy-is, row}
 use Rattle.demands.proofs.account.Answers.{wanted-on}
 use Rattle.demands.proofs.account.Calls.{Tie, Right, whole, create-right, handle-right, append-right, open-right}
 use Rattle.demands.proofs.account.Step.{step-right}
@@ -150,7 +150,7 @@ fresh-all =
     }
   where
     fresh-other : (i : ℕ) → freshAccount .readers (suc i) ≡ nobody
-    fresh-other i = other-at 0 (created nobody) (λ k. nobody) (suc i) (λ e. omega arith)
+    fresh-other i = other-at 0 (newReader nobody) (λ k. nobody) (suc i) (λ e. omega arith)
 
     reads : (i : ℕ) → Reads (freshAccount .readers i) (slotAt fresh i) (snapAt fresh i)
     reads zero = record { lives = refl; due = refl; guards = new-shut; epoch = refl; snapshot = free-everywhere slotCount 0 0 }

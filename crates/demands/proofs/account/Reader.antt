@@ -23,7 +23,7 @@ use Rattle.read.specs.declared.Made.{Made}
 use Rattle.read.specs.Machine.{guardCount, shut, isOpen, standsRight, putGuard, firstGuard, anyOpen, allOpen, isDue, isLoad}
 use Rattle.read.specs.Handles.{withDue, freed, guarded, loaded, entered, wentOn, released, copyOf, bit, handled}
 use Rattle.write.specs.Steps.{holds, seen}
-use Rattle.demands.specs.Account.{Reader, withAt, lowest, inside, withLife, turned, opens, closes, snapped, spoke, withSnapshot, released as releasedBy}
+use Rattle.demands.specs.Account.{Reader, withAt, lowest, inside, reader as readerOf, dropped, turned, opens, closes, readsEpoch, spoke, quits}
 use Rattle.demands.specs.Table.{delays, worthOn}
 use Rattle.read.specs.Admission.{column, entry}
 use Rattle.read.specs.Handles.{handleSigns}
@@ -61,12 +61,12 @@ module _ {r : Reader} {s : Slot} {e : ℕ} (h : Reads r s e) where
       ap (λ (n : ℕ). r .lives && (eqb n 1 && eqb (r .snapshot % 2 ^ 64) (r .epoch % 2 ^ 64))) e)
 
 -- a snapshot
-pub seen-reads : {r : Reader} {s : Slot} {e : ℕ} → Reads r s e → Reads (snapped r) s (seen s e)
+pub seen-reads : {r : Reader} {s : Slot} {e : ℕ} → Reads r s e → Reads (readsEpoch r) s (seen s e)
 seen-reads {r} {s} {e} h = go (r .lives) (s .used) refl refl
   where
     go : (b u : Bool) → r .lives ≡ b → s .used ≡ u →
         Reads (elim b [
-          | true ↦ withSnapshot (r .epoch) true r
+          | true ↦ readerOf (r .lives) (r .due) (r .guards) (r .loaded) (r .epoch) (r .epoch) true
           | false ↦ r
         ]) s (elim u [ true ↦ s .epoch | false ↦ e ])
     go true true p q = record { lives = h .lives; due = h .due; guards = h .guards; epoch = h .epoch; snapshot = h .epoch }
@@ -89,7 +89,7 @@ abbrev pub answer15 : Bool → ℕ
 answer15 b = elim b [ true ↦ 15 | false ↦ 0 ]
 
 module _ (os : List Op) {r : Reader} {s : Slot} {e : ℕ} (h : Reads r s e) (four : length (s .guards) ≡ guardCount) where
-  freed-reads : Reads (withLife false r) (freed s) e
+  freed-reads : Reads (dropped r) (freed s) e
   freed-reads = record { lives = refl; due = h .due; guards = h .guards; epoch = h .epoch; snapshot = h .snapshot }
 
   turned-reads : (n : ℕ) (d : Due) (x : ℕ) → x ≡ (r .epoch + n) % 2 ^ 64 → Reads (turned n d r) (withDue x d s) e
@@ -118,7 +118,7 @@ module _ (os : List Op) {r : Reader} {s : Slot} {e : ℕ} (h : Reads r s e) (fou
   abbrev without : ℕ → List Guard
   without j = putGuard j shut (s .guards)
 
-  released-reads : (j : ℕ) → isOpen (s .guards) j ≡ true → Reads (releasedBy j r) (released j s) e
+  released-reads : (j : ℕ) → isOpen (s .guards) j ≡ true → Reads (quits j r) (released j s) e
   released-reads j o = go (inside (closes j r)) (anyOpen (without j)) (any-open (without j) (withAt j false (r .guards)) (closed j o))
     where
       go : (b u : Bool) → u ≡ b →
@@ -158,7 +158,7 @@ module _ (os : List Op) {r : Reader} {s : Slot} {e : ℕ} (h : Reads r s e) (fou
         reader b a v =
             elim a [
               | zero ↦ elim b [ true ↦ opens v os r | false ↦ turned 1 Load r ]
-              | suc n ↦ elim (eqb (suc n) 15) [ true ↦ r | false ↦ r ]
+              | suc n ↦ r
             ]
 
         go : (b u n : Bool) → u ≡ b → anyOpen (s .guards) ≡ u →

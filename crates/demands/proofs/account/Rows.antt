@@ -1,9 +1,12 @@
 -- The table by rows: what the rules' signs say is what the account's rows say, so the answers are the same.
-use Prim.Native.Nat.{ℕ}
+use Prim.Native.Nat.{ℕ, suc, _<_}
 use mathlib.Core.Path.{_≡_, refl, sym, ap, _∙_}
+use mathlib.Core.Logic.{_≢_}
 use mathlib.Core.Bool.{Bool, true, false, not, _&&_, _||_}
 use mathlib.Core.List.{List, [], _∷_, _++_}
-use lib.Dec.{eqb}
+use native.Mathlib.Omega.{arith}
+use lib.Dec.{eqb, ltb}
+use borrow.Author.Tests.{eq-eqb, ltb-true}
 use Rattle.table.specs.Answers.{number}
 use Rattle.table.specs.declared.Answer.{Answer}
 use Rattle.table.proofs.Split.{split}
@@ -18,14 +21,24 @@ use Rattle.read.specs.declared.Signs.{Signs}
 use Rattle.read.specs.Machine.{underway, isGone, locks}
 use Rattle.read.specs.Admission.{column, entry, notNow, locked as lockedNo}
 use Rattle.read.specs.Handles.{given, smallest}
+use Rattle.write.specs.declared.Opening.the-variants as opening
+use Rattle.write.specs.declared.Call.{Call}
+use Rattle.write.specs.declared.Call.the-variants.{Create, On, Append, Open, Step, Run}
+use Rattle.write.specs.Numbers.{is, among, isStep}
 use Rattle.write.proofs.Control.{Whole}
-use Rattle.demands.specs.Account.{Move, Account}
-use Rattle.demands.specs.Table.{Row, row, least, busy, locked, lockHeld}
+use Rattle.demands.specs.Account.{Move, Account, account}
+use Rattle.demands.specs.Table.{least, busy, underLock, lockHeld, meetsReader, whatComesBack, wanted}
 use Rattle.demands.proofs.account.Plan.{moveOf, plan, plan-head, plan-none}
 use Rattle.demands.proofs.account.Control.{SteersOf}
-use Rattle.demands.proofs.Booleans.{clash}
+use Rattle.demands.proofs.Booleans.{clash, both, and-false, or-first, or-true}
 
 -- ---- rows
+
+abbrev pub Row : Type 0
+Row = ℕ × Bool
+
+abbrev pub row : ℕ → Bool → Row
+row n b = (n, b)
 
 -- row by row, the later ones where the earlier do not apply
 pub data Agree : List Row → List Row → Type 0 where
@@ -35,7 +48,7 @@ pub data Agree : List Row → List Row → Type 0 where
 
 pub agree-least : {rs ss : List Row} → Agree rs ss → least rs ≡ least ss
 agree-least none = refl
-agree-least (same {r} h) = ap (λ (x : ℕ). elim (r .applies) [ true ↦ r .no | false ↦ x ]) (agree-least h)
+agree-least (same {r} h) = ap (λ (x : ℕ). elim (r .1) [ true ↦ r .0 | false ↦ x ]) (agree-least h)
 agree-least (here {n} {b} {c} {rs} {ss} q f) = go b c q (λ e. agree-least (f e))
   where
     go : (x y : Bool) → x ≡ y → (x ≡ false → least rs ≡ least ss) → _≡_ {A = ℕ} (elim x [ true ↦ n | false ↦ least rs ]) (elim y [ true ↦ n | false ↦ least ss ])
@@ -43,6 +56,80 @@ agree-least (here {n} {b} {c} {rs} {ss} q f) = go b c q (λ e. agree-least (f e)
     go true false q f = clash refl q
     go false true q f = clash refl (sym q)
     go false false q f = f refl
+
+pub or-nil : (b : Bool) → (b || false) ≡ b
+or-nil true = refl
+or-nil false = refl
+
+abbrev pub isBusy : List Move → Bool
+isBusy ms = elim ms [ [] ↦ false | x ∷ xs ↦ true ]
+
+-- the number that is given is that of a row that applies
+abbrev pub gives : ℕ → List Row → Bool
+gives n [] = false
+gives n (r ∷ rs) = eqb (r .0) n && r .1 || gives n rs
+
+pub least-gives : (n : ℕ) (rs : List Row) → least rs ≡ suc n → gives (suc n) rs ≡ true
+least-gives n [] e = absurd (omega arith)
+least-gives n (r ∷ rs) e = go (r .1) (least-gives n rs) e
+  where
+    go : (b : Bool) → (least rs ≡ suc n → gives (suc n) rs ≡ true) → elim b [ true ↦ r .0 | false ↦ least rs ] ≡ suc n →
+        (eqb (r .0) (suc n) && b || gives (suc n) rs) ≡ true
+    go true f e = ap (λ (x : Bool). x && true || gives (suc n) rs) (eq-eqb (r .0) (suc n) e)
+    go false f e = ap (λ (x : Bool). eqb (r .0) (suc n) && false || x) (f e) ∙ or-true (eqb (r .0) (suc n) && false)
+
+-- a step is not made where no call is under way
+pub idle-step : (a : Account) → busy a ≡ false → wanted a Step ≢ 0
+unfolding wanted
+idle-step a = go (a .plan) (a .gone)
+  where
+    go : (ms : List Move) (g : Bool) → isBusy ms ≡ false → wanted (account (a .readers) (a .store) ms (a .trial) (a .taken) g) Step ≢ 0
+    go (x ∷ xs) g e = clash refl e
+    go [] true e = λ z. omega arith
+    go [] false e = λ z. omega arith
+
+is-step : (k : Call) → is 13 k ≡ isStep k
+is-step Create = refl
+is-step (On i Drop) = refl
+is-step (On i Enter) = refl
+is-step (On i GoOn) = refl
+is-step (On i (Release j)) = refl
+is-step (On i (LookUp j key)) = refl
+is-step (On i WasDropped) = refl
+is-step (Append kind key amount) = refl
+is-step (Open opening.Publish) = refl
+is-step (Open opening.Try) = refl
+is-step (Open opening.Flush) = refl
+is-step (Open opening.Take) = refl
+is-step Step = refl
+is-step Run = refl
+
+-- only a step is declined, and a try's
+pub declined-tries : (a : Account) (k : Call) → wanted a k ≡ 14 → (isStep k ≡ true) × (a .trial ≡ true)
+unfolding wanted
+declined-tries a k e =
+    let (s, t) = both (is 13 k) (meetsReader a && a .trial) (sym (or-nil _) ∙ least-gives 13 (whatComesBack a k) e) in
+    (sym (is-step k) ∙ s, both (meetsReader a) (a .trial) t .1)
+
+-- where a row applies, 0 is not given
+abbrev numbered : List Row → Bool
+numbered [] = true
+numbered (r ∷ rs) = ltb 0 (r .0) && numbered rs
+
+gives-some : (n : ℕ) (rs : List Row) → numbered rs ≡ true → gives n rs ≡ true → least rs ≢ 0
+gives-some n [] p e = clash e refl
+gives-some n (r ∷ rs) p e = let (x, y) = both (ltb 0 (r .0)) (numbered rs) p in go (r .1) (ltb-true 0 (r .0) x) (gives-some n rs y) e
+  where
+    go : (b : Bool) → 0 < r .0 → (gives n rs ≡ true → least rs ≢ 0) → (eqb (r .0) n && b || gives n rs) ≡ true →
+        _≢_ {A = ℕ} (elim b [ true ↦ r .0 | false ↦ least rs ]) 0
+    go true x f e = λ z. omega arith
+    go false x f e = f (sym (ap (λ (c : Bool). c || gives n rs) (and-false (eqb (r .0) n))) ∙ e)
+
+-- append and the beginnings are not made while a call is under way
+pub writes-idle : (a : Account) (k : Call) → among 8 12 k ≡ true → wanted a k ≡ 0 → busy a ≡ false
+unfolding wanted
+writes-idle a k w z =
+    split (busy a) (λ u. absurd (gives-some 6 (whatComesBack a k) refl (or-first _ (or-first _ (λ i. w i && u i))) z)) (λ u. u)
 
 abbrev pub signRows : Signs → List Row
 signRows s =
@@ -73,10 +160,6 @@ rows-least s rest =
     x = least rest
 
 -- ---- tests
-
-pub or-nil : (b : Bool) → (b || false) ≡ b
-or-nil true = refl
-or-nil false = refl
 
 now-6 : (b : Bool) → eqb (notNow b) 6 ≡ b
 now-6 true = refl
@@ -157,13 +240,10 @@ entry-append p = now-6 (underway p || isGone p)
 
 -- ---- a call is under way, and the lock is held, as the phase says
 
-abbrev pub isBusy : List Move → Bool
-isBusy ms = elim ms [ [] ↦ false | x ∷ xs ↦ true ]
-
 abbrev heldBy : List Move → Bool
-heldBy ms = elim ms [ [] ↦ false | x ∷ xs ↦ locked x ]
+heldBy ms = elim ms [ [] ↦ false | x ∷ xs ↦ underLock x ]
 
-move-locks : (p : Phase) → underway p ≡ true → locked (moveOf p) ≡ locks p
+move-locks : (p : Phase) → underway p ≡ true → underLock (moveOf p) ≡ locks p
 move-locks Idle u = clash u refl
 move-locks Begin u = refl
 move-locks (Poll k) u = refl

@@ -6,7 +6,8 @@ use mathlib.Core.List.{List, [], _∷_}
 use native.Mathlib.Omega.{arith}
 use lib.ListN.{length, getD, set}
 use lib.Seq.{set-getD}
-use lib.Dec.{eqb}
+use lib.Dec.{eqb, leb}
+use borrow.Author.Tests.{lt-leb}
 use Rattle.table.specs.Answers.{number}
 use Rattle.table.specs.declared.Answer.the-variants as answer
 use Rattle.read.specs.declared.Phase.{Phase}
@@ -33,7 +34,7 @@ use Rattle.write.proofs.Control.{Fits, fits, some-slot, whole-step}
 use Rattle.read.specs.declared.Verdict.the-variants.{Admitted}
 use Rattle.write.proofs.Left.{outcome, step-answer, Stepped, done, held, declined, declinedMove, step-stepped, step-value}
 use Rattle.write.specs.World.{World, worldOf, reply}
-use Rattle.demands.specs.Account.{Reader, Account, Move, begin, poll, copy, apply, swap, snap, null, lock, finish, withAt, snapped, withLife, withPlan, moved, advanced, noted}
+use Rattle.demands.specs.Account.{Reader, Account, Move, begin, poll, copy, apply, swap, snap, null, lock, finish, withAt, readsEpoch, dropped, withPlan, makes, advanced, noted}
 use Rattle.demands.specs.Table.{least, meets, meetsReader, wanted, wantedValue, worth}
 use Rattle.demands.proofs.shown.Guards.{at-set, same-at, other-at}
 use Rattle.demands.proofs.shown.Invariant.{seenOf, afterMove, Inv}
@@ -66,7 +67,7 @@ module _ (a : Account) (st : State) (rd : ReadsAll a st) where
   meets-at Gone = refl
 
 -- what the invariant looks at in the account, after a step
-moved-seen : (x : Move) (a : Account) → seenOf (moved x a) ≡ afterMove x (seenOf a)
+moved-seen : (x : Move) (a : Account) → seenOf (makes x a) ≡ afterMove x (seenOf a)
 moved-seen begin a = refl
 moved-seen (poll i) a = refl
 moved-seen copy a = refl
@@ -77,10 +78,10 @@ moved-seen (snap i) a =
       accepted = a .store .accepted;
       atBegin = a .store .atBegin;
       published = a .store .published;
-      loaded = λ k. same-loaded (a .readers) i (snapped (a .readers i)) (snapped-loaded (a .readers i)) k z;
+      loaded = λ k. same-loaded (a .readers) i (readsEpoch (a .readers i)) (snapped-loaded (a .readers i)) k z;
     }
   where
-    snapped-loaded : (r : Reader) → snapped r .loaded ≡ r .loaded
+    snapped-loaded : (r : Reader) → readsEpoch r .loaded ≡ r .loaded
     snapped-loaded r = by (λ (s : Reader). s .loaded ≡ r .loaded) (r .lives) (λ _. refl) (λ _. refl)
 moved-seen null a = refl
 moved-seen lock a = refl
@@ -89,13 +90,13 @@ moved-seen finish a =
       accepted = a .store .accepted;
       atBegin = a .store .atBegin;
       published = a .store .published;
-      loaded = λ k. same-loaded (a .readers) 0 (withLife false (a .readers 0)) refl k z;
+      loaded = λ k. same-loaded (a .readers) 0 (dropped (a .readers 0)) refl k z;
     }
 
 -- a step that ends the call is the last of the plan
-last-step : (xs : List Move) → _≡_ {A = Bool} (elim xs [ [] ↦ true | y ∷ ys ↦ false ]) (not (isBusy xs))
+last-step : (xs : List Move) → leb (suc (length xs)) 1 ≡ not (isBusy xs)
 last-step [] = refl
-last-step (x ∷ xs) = refl
+last-step (x ∷ xs) = lt-leb (suc (suc (length xs))) 1 (omega arith)
 
 module _ {w : World} {a : Account} (tie : Tie w a) where
   abbrev c : Control
@@ -117,7 +118,7 @@ module _ {w : World} {a : Account} (tie : Tie w a) where
 
   abbrev Moves : Phase → Moved → Type 0
   Moves p m = (ms : List Move) (i : ℕ) →
-      Reads (moved (moveOf p) (withPlan (a .trial) ms a) .readers i) (getD (set (st .slots) (place p) (m .slot)) i noSlot)
+      Reads (makes (moveOf p) (withPlan (a .trial) ms a) .readers i) (getD (set (st .slots) (place p) (m .slot)) i noSlot)
       (getD (set (st .snapshots) (place p) (m .snapshot)) i 0)
 
   reads-back : (k : ℕ) (i : ℕ) → Reads (a .readers i) (getD (set (st .slots) k (slotAt st k)) i noSlot) (getD (set (st .snapshots) k (snapAt st k)) i 0)
@@ -127,26 +128,26 @@ module _ {w : World} {a : Account} (tie : Tie w a) where
 
   -- slot k's snapshot
   reads-snapped : (k : ℕ) → k < slotCount → (i : ℕ) →
-      Reads (withAt k (snapped (a .readers k)) (a .readers) i) (getD (set (st .slots) k (slotAt st k)) i noSlot)
+      Reads (withAt k (readsEpoch (a .readers k)) (a .readers) i) (getD (set (st .slots) k (slotAt st k)) i noSlot)
       (getD (set (st .snapshots) k (seen (slotAt st k) (snapAt st k))) i 0)
   reads-snapped k b =
       subst
-      (λ (ss : List Slot). (i : ℕ) → Reads (withAt k (snapped (a .readers k)) (a .readers) i) (getD ss i noSlot)
+      (λ (ss : List Slot). (i : ℕ) → Reads (withAt k (readsEpoch (a .readers k)) (a .readers) i) (getD ss i noSlot)
       (getD (set (st .snapshots) k (seen (slotAt st k) (snapAt st k))) i 0))
       (sym (set-getD (st .slots) k noSlot))
-      (at-set (λ i y. Reads (withAt k (snapped (a .readers k)) (a .readers) i) (slotAt st i) y) (st .snapshots) k (seen (slotAt st k) (snapAt st k)) 0
+      (at-set (λ i y. Reads (withAt k (readsEpoch (a .readers k)) (a .readers) i) (slotAt st i) y) (st .snapshots) k (seen (slotAt st k) (snapAt st k)) 0
       (let z = tie .sound .snapshots in omega arith)
-      (subst (λ (r : Reader). Reads r (slotAt st k) (seen (slotAt st k) (snapAt st k))) (sym (same-at k (snapped (a .readers k)) (a .readers))) (seen-reads (tie .reads k)))
-      (λ i ne. subst (λ (r : Reader). Reads r (slotAt st i) (snapAt st i)) (sym (other-at k (snapped (a .readers k)) (a .readers) i ne)) (tie .reads i)))
+      (subst (λ (r : Reader). Reads r (slotAt st k) (seen (slotAt st k) (snapAt st k))) (sym (same-at k (readsEpoch (a .readers k)) (a .readers))) (seen-reads (tie .reads k)))
+      (λ i ne. subst (λ (r : Reader). Reads r (slotAt st i) (snapAt st i)) (sym (other-at k (readsEpoch (a .readers k)) (a .readers) i ne)) (tie .reads i)))
 
   -- slot 0 is freed
   reads-freed : (i : ℕ) →
-      Reads (withAt 0 (withLife false (a .readers 0)) (a .readers) i) (getD (set (st .slots) 0 (freed (slotAt st 0))) i noSlot)
+      Reads (withAt 0 (dropped (a .readers 0)) (a .readers) i) (getD (set (st .slots) 0 (freed (slotAt st 0))) i noSlot)
       (getD (set (st .snapshots) 0 (snapAt st 0)) i 0)
   reads-freed =
-      subst (λ (es : List ℕ). (i : ℕ) → Reads (withAt 0 (withLife false (a .readers 0)) (a .readers) i) (getD (set (st .slots) 0 (freed (slotAt st 0))) i noSlot) (getD es i 0))
+      subst (λ (es : List ℕ). (i : ℕ) → Reads (withAt 0 (dropped (a .readers 0)) (a .readers) i) (getD (set (st .slots) 0 (freed (slotAt st 0))) i noSlot) (getD es i 0))
       (sym (set-getD (st .snapshots) 0 0))
-      (slot-reads st a (len tie) (tie .reads) 0 some-slot (withLife false (a .readers 0)) (freed (slotAt st 0))
+      (slot-reads st a (len tie) (tie .reads) 0 some-slot (dropped (a .readers 0)) (freed (slotAt st 0))
       (let h = tie .reads 0 in record { lives = refl; due = h .due; guards = h .guards; epoch = h .epoch; snapshot = h .snapshot }))
 
   moves-poll : (held : Bool) (k : ℕ) → number (pollMove held k c (slot (Poll k)) (snapOf (Poll k)) .answer) ≡ 0 → Moves (Poll k) (pollMove held k c (slot (Poll k)) (snapOf (Poll k)))
@@ -183,9 +184,6 @@ module _ {w : World} {a : Account} (tie : Tie w a) where
   abbrev c' : Control
   c' = after (c .phase) .control
 
-  abbrev endsBy : List Move → Bool
-  endsBy ms = elim ms [ [] ↦ true | x ∷ xs ↦ elim xs [ [] ↦ true | y ∷ ys ↦ false ] ]
-
   on-keeps : Next (tie .sound) (tie .inv) (c .phase) onStep
   unfolding stepOn
   on-keeps = stepOn-keeps (tie .sound) (tie .inv)
@@ -202,7 +200,7 @@ module _ {w : World} {a : Account} (tie : Tie w a) where
           answer = z ∙ sym want;
           value = value-done a Step v want
               (step-value c u (slot p) (snapOf p) (w .left) (w .right) (w .log)
-              ∙ ap bit (sym (ap endsBy q ∙ last-step (plan c') ∙ ap not (plan-busy c' wh))));
+              ∙ ap bit (sym (ap (λ (ms : List Move). leb (length ms) 1) q ∙ last-step (plan c') ∙ ap not (plan-busy c' wh))));
           inv = subst (λ (n : ℕ). InvOf (worldOf onStep) (noted Step n v a)) (sym z)
               (subst (λ (ms : List Move). InvOf (worldOf onStep) (advanced ms a)) (sym q)
               (subst (Inv (worldOf onStep)) (sym (moved-seen (moveOf p) (withPlan (a .trial) (plan c') a)))

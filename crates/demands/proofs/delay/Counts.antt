@@ -33,19 +33,15 @@ publishing-length false false n = simp (length-append, length-replicate) (omega 
 pub last-length : length lastPlan ≡ 3 + 2 * slotCount
 last-length = simp length-append (omega (arith, each-length poll, each-length snap))
 
--- ---- in numbers; u: no swap came; y: synchronised
+-- ---- of a call; u: no swap came; y: synchronised
 
-module _ (n : ℕ) where
-  publish-sum : (u y : Bool) → (u ≡ true → n ≡ 0) → suc (length (publishing (not u) (not (u || y)) n)) ≡ elim u [ true ↦ 18 | false ↦ 34 + bit (not y) + n ]
-  unfolding slotCount
-  publish-sum true y z = let e = z refl in omega (arith, publishing-length false false n)
-  publish-sum false y z = omega (arith, publishing-length true (not y) n)
-
-  try-sum : (u y : Bool) → (u ≡ true → n ≡ 0) →
-      suc (length (publishing true (not (u || y)) n)) ≡ elim u [ true ↦ 34 | false ↦ 34 + bit (not y) + n ]
-  unfolding slotCount
-  try-sum true y z = let e = z refl in omega (arith, publishing-length true false n)
-  try-sum false y z = omega (arith, publishing-length true (not y) n)
+publish-sum : (trial u y : Bool) (n : ℕ) → (u ≡ true → n ≡ 0) →
+    suc (length (publishing (trial || not u) (not (u || y)) n))
+    ≡ elim u [ true ↦ 2 + slotCount + elim trial [ true ↦ slotCount | false ↦ 0 ] | false ↦ 2 + 2 * slotCount + bit (not y) + n ]
+publish-sum true true y n z = let e = z refl in omega (arith, publishing-length true false n)
+publish-sum true false y n z = omega (arith, publishing-length true (not y) n)
+publish-sum false true y n z = let e = z refl in omega (arith, publishing-length false false n)
+publish-sum false false y n z = omega (arith, publishing-length true (not y) n)
 
 -- a publish inside a take has its beginning among its own steps
 inner-sum : (x : Bool) (p : List Move) (n : ℕ) → suc (length p) ≡ n → length (provided x (begin ∷ p)) ≡ elim x [ true ↦ n | false ↦ 0 ]
@@ -53,20 +49,20 @@ inner-sum true p n e = e
 inner-sum false p n e = refl
 
 module _ (s : Store) (z : unswapped s ≡ true → s .inLog ≡ 0) where
+  publish-steps : (trial : Bool) → suc (length (publishPlan trial s)) ≡ publishSteps trial s
+  publish-steps trial = publish-sum trial (unswapped s) (s .synced) (s .inLog) z
+
   pub first-steps : length (firstInside s) ≡ firstSteps s
-  first-steps =
-      inner-sum (unswapped s || ltb 0 (s .inLog)) (publishPlan false s) (publishSteps s) (publish-sum (s .inLog) (unswapped s) (s .synced) z)
+  first-steps = inner-sum (unswapped s || ltb 0 (s .inLog)) (publishPlan false s) (publishSteps false s) (publish-steps false)
 
   pub second-steps : length (secondInside s) ≡ secondSteps s
-  unfolding slotCount
   second-steps =
-      inner-sum (ltb 0 (unpublished s)) (publishing true false (unpublished s)) (34 + unpublished s)
+      inner-sum (ltb 0 (unpublished s)) (publishing true false (unpublished s)) (2 + 2 * slotCount + unpublished s)
       (omega (arith, publishing-length true false (unpublished s)))
 
   pub plan-steps : (o : Opening) → suc (length (planOf o s)) ≡ stepsOf o s
-  unfolding slotCount
-  plan-steps opening.Publish = publish-sum (s .inLog) (unswapped s) (s .synced) z
-  plan-steps opening.Try = try-sum (s .inLog) (unswapped s) (s .synced) z
-  plan-steps opening.Flush = publish-sum (s .inLog) (unswapped s) (s .synced) z
+  plan-steps opening.Publish = publish-steps false
+  plan-steps opening.Try = publish-steps true
+  plan-steps opening.Flush = publish-steps false
   plan-steps opening.Take =
       omega (arith, first-steps, second-steps, last-length, length-append (firstInside s) (secondInside s ++ lastPlan), length-append (secondInside s) lastPlan)

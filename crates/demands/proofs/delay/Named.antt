@@ -12,7 +12,7 @@ use Rattle.read.specs.declared.Handle.the-variants.{GoOn, Release}
 use Rattle.write.specs.declared.Opening.{Opening}
 use Rattle.write.specs.declared.Call.the-variants.{On, Open, Step}
 use Rattle.demands.specs.Account.{Reader, Account, Move, poll, each, inside}
-use Rattle.demands.specs.Table.{row, least, busy, delays, meetsReader, wanted}
+use Rattle.demands.specs.Table.{least, busy, delays, meetsReader, wanted}
 use Rattle.demands.specs.Follows.{Named}
 use Rattle.read.specs.declared.Phase.the-variants.{Idle}
 use Rattle.read.specs.declared.Slot.{Slot}
@@ -31,7 +31,7 @@ use Rattle.demands.proofs.shown.Slot.{at-rest}
 use Rattle.demands.proofs.account.Reader.{is-inside, misses, answer15}
 use Rattle.demands.proofs.shown.Guards.{open-below}
 use Rattle.demands.proofs.delay.Always.{delaying}
-use Rattle.demands.proofs.account.Rows.{busy-is}
+use Rattle.demands.proofs.account.Rows.{busy-is, row}
 use Rattle.demands.proofs.account.Answers.{wanted-open}
 use Rattle.demands.proofs.account.Calls.{whole}
 use Rattle.demands.proofs.account.Demands.{All, admitted-zero}

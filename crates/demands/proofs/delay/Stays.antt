@@ -2,7 +2,7 @@
 use Prim.Native.Nat.{ℕ, zero, suc, _<_}
 use mathlib.Core.Path.{_≡_, refl, sym, ap, _∙_, subst}
 use mathlib.Core.Logic.{_≢_}
-use mathlib.Core.Bool.{Bool, true, false, not}
+use mathlib.Core.Bool.{Bool, true, false, not, _&&_}
 use mathlib.Core.List.{List, [], _∷_}
 use native.Mathlib.Decide.{ℕ-discrete}
 use lib.Dec.{eqb}
@@ -19,16 +19,18 @@ use Rattle.read.specs.Machine.{slotCount, guardCount}
 use Rattle.read.specs.Handles.{smallest, bit}
 use Rattle.read.specs.Calls.{slotAt, createSigns}
 use Rattle.write.specs.declared.Opening.{Opening}
-use Rattle.write.specs.declared.Opening.the-variants as opening
+use Rattle.read.specs.Admission.{handleNumber}
 use Rattle.write.specs.declared.Call.{Call}
 use Rattle.write.specs.declared.Call.the-variants.{Create, On, Append, Open, Step, Run}
 use Rattle.write.specs.Machine.{callRule}
 use Rattle.write.proofs.Verdicts.{admitted-unopposed}
 use Rattle.write.specs.World.{World, reply, answerOf, valueOf}
-use Rattle.demands.specs.Account.{Reader, Account, Move, begin, poll, copy, apply, swap, snap, null, lock, finish, withAt, lowest, inside, created, withLife, turned, opens, closes, snapped, missed, spoke, unswapped, ofReader, ofStore, accepts, withPlan, advanced, ran, stopped, begins as openingBy, noted, withSnapshot}
+use Rattle.write.proofs.Cases.{by}
+use Rattle.demands.specs.Account.{Reader, Account, Move, withAt, lowest, inside, newReader, dropped, turned, opens, closes, readsEpoch, missed, spoke, unswapped, withPlan, advanced, ran, ifDeclined, noted}
 use Rattle.demands.specs.Table.{wantedValue, worth, worthOn}
-use Rattle.write.specs.Numbers.{isRun}
+use Rattle.write.specs.Numbers.{is, isRun}
 use Rattle.demands.proofs.shown.Guards.{open-below, same-at, other-at}
+use Rattle.demands.proofs.account.Moves.{no-move, ran-keeps}
 use Rattle.demands.proofs.account.Answers.{wanted-create}
 use Rattle.demands.proofs.account.Calls.{whole}
 use Rattle.demands.proofs.account.Demands.{All, admitted-zero, right, owner}
@@ -51,79 +53,41 @@ module _ (j : ℕ) where
     | no ne ↦ subst (λ (q : Reader). Stays (rs i) q) (sym (other-at k s rs i ne)) (same (rs i))
   ]
 
-  -- ---- the steps
-
-  snapped-stays : (r : Reader) → Stays r (snapped r)
-  snapped-stays r = go (r .lives)
-    where
-      go : (b : Bool) →
-          Stays r (elim b [
-            | true ↦ withSnapshot (r .epoch) true r
-            | false ↦ r
-          ])
-      go true o = (o, refl)
-      go false o = (o, refl)
+  -- ---- what is noted of the writer's calls
 
   module _ (i : ℕ) where
-    step-stays : (ms : List Move) (a : Account) → Stays (a .readers i) (advanced ms a .readers i)
+    -- reader i stays from account a to account b
+    abbrev Both : Account → Account → Type 0
+    Both a b = Stays (a .readers i) (b .readers i)
+
+    step-stays : (ms : List Move) (a : Account) → Both a (advanced ms a)
     step-stays [] a = same (a .readers i)
-    step-stays (begin ∷ xs) a = same (a .readers i)
-    step-stays (poll k ∷ xs) a = same (a .readers i)
-    step-stays (copy ∷ xs) a = same (a .readers i)
-    step-stays (apply ∷ xs) a = same (a .readers i)
-    step-stays (swap ∷ xs) a = same (a .readers i)
-    step-stays (snap k ∷ xs) a = at-stays (a .readers) k (snapped (a .readers k)) i (λ _. snapped-stays (a .readers k))
-    step-stays (null ∷ xs) a = same (a .readers i)
-    step-stays (lock ∷ xs) a = same (a .readers i)
-    step-stays (finish ∷ xs) a = at-stays (a .readers) 0 (withLife false (a .readers 0)) i (λ _ o. (o, refl))
+    step-stays (x ∷ xs) a =
+        let h = same (a .readers i) in
+        no-move (Both a) (withPlan (a .trial) xs a) h h h h
+        (λ k. at-stays (a .readers) k (readsEpoch (a .readers k)) i (λ _. by (Stays (a .readers k)) (a .readers k .lives) (λ _ o. (o, refl)) (λ _ o. (o, refl))))
+        (at-stays (a .readers) 0 (dropped (a .readers 0)) i (λ _ o. (o, refl))) x
 
-    ran-stays : (n : ℕ) (a : Account) → Stays (a .readers i) (ran n a .readers i)
-    ran-stays zero a = same (a .readers i)
-    ran-stays (suc n) a = then (a .readers i) (advanced (a .plan) a .readers i) (ran (suc n) a .readers i) (step-stays (a .plan) a) (ran-stays n (advanced (a .plan) a))
+    ran-stays : (n : ℕ) (a : Account) → Both a (ran n a)
+    ran-stays n a = ran-keeps (Both a) (λ b h. then (a .readers i) (b .readers i) (advanced (b .plan) b .readers i) h (step-stays (b .plan) b)) n a (same (a .readers i))
 
-    stopped-stays : (n : ℕ) (a : Account) → Stays (a .readers i) (stopped n a .readers i)
-    stopped-stays n a = go (eqb n 14)
-      where
-        ended : Bool → Account
-        ended b = elim b [ true ↦ withPlan (a .trial) [] a | false ↦ a ]
+    -- a declined step ends its call
+    ended-stays : (n : ℕ) (a b : Account) → Both a b → Both a (ifDeclined n b)
+    ended-stays n a b h = by (Both a) (eqb n 14) (λ _. h) (λ _. h)
 
-        go : (b : Bool) → Stays (a .readers i) (ended b .readers i)
-        go true = same (a .readers i)
-        go false = same (a .readers i)
+    made-stays : (n v : ℕ) (a : Account) → Both a (noted Step n v a)
+    made-stays zero v a = ended-stays 0 a (advanced (a .plan) a) (step-stays (a .plan) a)
+    made-stays (suc n) v a = ended-stays (suc n) a a (same (a .readers i))
 
-    made-stays : (n v : ℕ) (a : Account) → Stays (a .readers i) (noted Step n v a .readers i)
-    made-stays zero v a = then (a .readers i) (advanced (a .plan) a .readers i) (stopped 0 (advanced (a .plan) a) .readers i) (step-stays (a .plan) a) (stopped-stays 0 (advanced (a .plan) a))
-    made-stays (suc n) v a = stopped-stays (suc n) a
-
-    -- ---- the writer's other calls
-
-    append-stays : (kind key amount n v : ℕ) (a : Account) → Stays (a .readers i) (noted (Append kind key amount) n v a .readers i)
+    append-stays : (kind key amount n v : ℕ) (a : Account) → Both a (noted (Append kind key amount) n v a)
     append-stays kind key amount (suc n) v a = same (a .readers i)
-    append-stays kind key amount zero v a = go (unswapped (a .store))
-      where
-        op : Op
-        op = record { kind = kind; key = key; amount = amount }
+    append-stays kind key amount zero v a =
+        by (Both a) (unswapped (a .store)) (λ _. at-stays (a .readers) 0 (turned 2 (a .readers 0 .due) (a .readers 0)) i (λ _ o. (o, refl)))
+        (λ _. same (a .readers i))
 
-        by-first : Bool → Account
-        by-first b = elim b [ true ↦ ofReader 0 (λ r. turned 2 (r .due) r) (ofStore (accepts 0 op) a) | false ↦ ofStore (accepts 1 op) a ]
-
-        go : (b : Bool) → Stays (a .readers i) (by-first b .readers i)
-        go true = at-stays (a .readers) 0 (turned 2 (a .readers 0 .due) (a .readers 0)) i (λ _ o. (o, refl))
-        go false = same (a .readers i)
-
-    open-stays : (o : Opening) (n v : ℕ) (a : Account) → Stays (a .readers i) (noted (Open o) n v a .readers i)
+    open-stays : (o : Opening) (n v : ℕ) (a : Account) → Both a (noted (Open o) n v a)
     open-stays o (suc n) v a = same (a .readers i)
-    open-stays opening.Publish zero v a = same (a .readers i)
-    open-stays opening.Try zero v a = same (a .readers i)
-    open-stays opening.Flush zero v a = go (eqb v 1)
-      where
-        flushed : Bool → Account
-        flushed b = elim b [ true ↦ openingBy opening.Flush a | false ↦ a ]
-
-        go : (b : Bool) → Stays (a .readers i) (flushed b .readers i)
-        go true = same (a .readers i)
-        go false = same (a .readers i)
-    open-stays opening.Take zero v a = same (a .readers i)
+    open-stays o zero v a = by (Both a) (is 11 (Open o) && not (eqb v 1)) (λ _. same (a .readers i)) (λ _. same (a .readers i))
 
   -- ---- a call on its handle
 
@@ -137,25 +101,16 @@ module _ (j : ℕ) where
             let lt : lowest r < guardCount = subst (λ (x : ℕ). x < guardCount) (e ∙ q) (below o) in
             clash (seek-found (λ x. not (r .guards x)) guardCount lt) (ap not (subst (λ (x : ℕ). r .guards x ≡ true) (e ∙ q) o))
 
-    missed-stays : (x : Handle) → Stays r (missed x r)
-    missed-stays Drop = same r
-    missed-stays Enter = same r
-    missed-stays GoOn = go (r .due)
+    missed-stays : Stays r (missed r)
+    missed-stays = go (r .due)
       where
         go : (d : Due) → Stays r (elim d [ Nothing ↦ r | Load ↦ turned 0 Restore r | Restore ↦ turned 1 Nothing r ])
         go Nothing o = (o, refl)
         go Load o = (o, refl)
         go Restore o = (o, refl)
-    missed-stays (Release k) = same r
-    missed-stays (LookUp k key) = same r
-    missed-stays WasDropped = same r
 
     spoke-stays : (x : Handle) → x ≢ Release j → (taken : Bool) (n v : ℕ) → (n ≡ 0 → v ≡ worthOn x taken r) → Stays r (spoke x n v os r)
-    spoke-stays x ne taken (suc n) v f = go (eqb (suc n) 15)
-      where
-        go : (b : Bool) → Stays r (elim b [ true ↦ missed x r | false ↦ r ])
-        go true = missed-stays x
-        go false = same r
+    spoke-stays x ne taken (suc n) v f = by (Stays r) (eqb (handleNumber x) 4 && eqb (suc n) 15) (λ _. missed-stays) (λ _. same r)
     spoke-stays Drop ne taken zero v f = λ o. (o, refl)
     spoke-stays Enter ne taken zero v f = go (inside r) (f refl)
       where
@@ -200,7 +155,7 @@ module _ {w : World} {a : Account} (h : All w a) (i j : ℕ) where
       shut false e = refl
 
   create-stays : (n v : ℕ) → (n ≡ 0 → a .readers v .lives ≡ false) → Stays j (a .readers i) (noted Create n v a .readers i)
-  create-stays zero v f = at-stays j (a .readers) v (created (a .readers v)) i (λ e o. clash (owner h v j o) (f refl))
+  create-stays zero v f = at-stays j (a .readers) v (newReader (a .readers v)) i (λ e o. clash (owner h v j o) (f refl))
   create-stays (suc n) v f = same j (a .readers i)
 
   pub call-stays : (k : Call) → k ≢ On i (Release j) →
@@ -213,5 +168,4 @@ module _ {w : World} {a : Account} (h : All w a) (i j : ℕ) where
   call-stays (Append kind key amount) ne = append-stays j i kind key amount (answerOf (reply callRule (Append kind key amount) w)) (valueOf (reply callRule (Append kind key amount) w)) a
   call-stays (Open o) ne = open-stays j i o (answerOf (reply callRule (Open o) w)) (valueOf (reply callRule (Open o) w)) a
   call-stays Step ne = made-stays j i (answerOf (reply callRule Step w)) (valueOf (reply callRule Step w)) a
-  call-stays Run ne =
-      then j (a .readers i) (ran (valueOf (reply callRule Run w)) a .readers i) (noted Run (answerOf (reply callRule Run w)) (valueOf (reply callRule Run w)) a .readers i) (ran-stays j i (valueOf (reply callRule Run w)) a) (stopped-stays j i (answerOf (reply callRule Run w)) (ran (valueOf (reply callRule Run w)) a))
+  call-stays Run ne = ended-stays j i (answerOf (reply callRule Run w)) a _ (ran-stays j i (valueOf (reply callRule Run w)) a)
