@@ -1,25 +1,31 @@
 -- Demand 1 of the rules. A refusal puts back what it read, so it changes nothing; and a run is never refused on its way.
 use Prim.Native.Nat.{ℕ, _≤_}
 use native.Mathlib.Omega.{arith}
-use mathlib.Core.Path.{_≡_, ap}
-use mathlib.Core.Bool.{Bool, true}
+use mathlib.Core.Path.{_≡_, sym, ap, _∙_}
+use mathlib.Core.Bool.{Bool, true, _&&_, _||_}
 use lib.Dec.{eqb, leb}
 use borrow.Author.Tests.{eqb-true, leb-true}
+use Rattle.table.specs.Answers.{refusing}
+use Rattle.table.proofs.Split.{split}
 use Rattle.read.specs.Calls.{lent, refusal}
 use Rattle.write.specs.declared.Call.{Call}
+use Rattle.write.specs.Numbers.{isStep}
 use Rattle.write.specs.Machine.{callRule}
 use Rattle.write.specs.World.{World, worldOf, reply, answerOf, valueOf}
-use Rattle.write.proofs.Cases.{by}
 use Rattle.write.proofs.Control.{both}
 use Rattle.write.proofs.Refusals.{stillUpTo, refusal-same}
 use Rattle.demands.specs.Demand1.{refuses, Demand1}
 use Rattle.demands.proofs.refusal.Judged.{still, unsized-1, broken-2, otherwise-none}
 
 refused-still : (k : Call) (a : ℕ) → refuses k a ≡ true → (1 ≤ a) × (a ≤ stillUpTo k)
-refused-still k a =
-    by (λ (b : Bool). b ≡ true → (1 ≤ a) × (a ≤ stillUpTo k)) (eqb a 13)
-    (λ e q. let z = eqb-true a 13 e in let x = still k .1 q in (omega arith, omega arith))
-    (λ e q. let (x, y) = both (leb 1 a) (leb a 12) q in let z = still k .0 in (leb-true 1 a x, omega (arith, leb-true a 12 y)))
+refused-still k a q =
+    split (refusing a)
+    (λ e. let (x, y) = both (leb 1 a) (leb a 12) e in let z = still k .0 in (leb-true 1 a x, omega (arith, leb-true a 12 y)))
+    (λ e.
+    let (s, t) = both (isStep k) (eqb a 13) (sym (ap (λ (b : Bool). b || isStep k && eqb a 13) e) ∙ q) in
+    let z = eqb-true a 13 t in
+    let x = still k .1 s in
+    (omega arith, omega arith))
 
 -- what is refused is the world as it was, with value 0
 refused : (k : Call) (w : World) → refuses k (answerOf (reply callRule k w)) ≡ true →
