@@ -4,9 +4,9 @@
 //! released. The limits are far apart, so that a busy machine does not decide the test.
 
 use crate::world::{Change, Counts};
+use common::answer::{DONE, HELD, LOCKED, NONE};
+use common::{call, file, kind, schedule, steps, Player, Record, Reply, ENTRY};
 use left_right::{ReadHandle, WriteHandle};
-use lrt::Player;
-use reference::Record;
 use std::sync::mpsc::{channel, Receiver, RecvTimeoutError};
 use std::thread;
 use std::time::{Duration, Instant};
@@ -63,45 +63,50 @@ fn seven(reader: &ReadHandle<Counts>) -> Option<u64> {
     reader.enter()?.pairs.get(&7).copied()
 }
 
-/// A record of ours as (call, slot, kind, key, amount), and the answer and value that it must have.
-type Call = (u8, u8, u8, u64, u64);
-type Wanted = (u8, u64);
-
-fn ours(player: Player, calls: &[(Call, Wanted)]) -> Result<(), String> {
-    let records: Vec<Record> = calls
-        .iter()
-        .map(|&((call, slot, kind, key, amount), _)| Record { call, slot, guard: 0, kind, key, amount })
-        .collect();
-    let mut out = vec![0; records.len() * reference::ENTRY];
-    let played = player(&reference::schedule(&records), &mut out);
-    if played != (0, out.len() as u64) {
+fn ours(player: Player, calls: &[(Record, Reply)]) -> Result<(), String> {
+    let records: Vec<Record> = calls.iter().map(|&(record, _)| record).collect();
+    let mut out = vec![0; records.len() * ENTRY];
+    let played = player(&schedule(&records), &mut out);
+    if played != (file::PLAYED, out.len() as u64) {
         return Err(format!("our player said {played:?}"));
     }
-    for (at, (entry, (_, wanted))) in out.chunks_exact(reference::ENTRY).zip(calls).enumerate() {
-        let given = (entry[0], u64::from_le_bytes(entry[1..].try_into().unwrap()));
+    for (at, (entry, (record, wanted))) in out.chunks_exact(ENTRY).zip(calls).enumerate() {
+        let given = Reply::from_bytes(entry);
         if given != *wanted {
-            let line = common::line(&records[at]);
-            return Err(format!("our record {} ({line}) gave {given:?}, wanted {wanted:?}", at + 1));
+            let line = common::line(record);
+            return Err(format!("our record {} ({line}) gave {given}, wanted {wanted}", at + 1));
         }
     }
     Ok(())
 }
 
-const CREATE: Call = (1, 0, 0, 0, 0);
-const DROP: Call = (2, 1, 0, 0, 0);
-const ENTER: Call = (3, 1, 0, 0, 0);
-const GO_ON: Call = (4, 1, 0, 0, 0);
-const RELEASE: Call = (5, 1, 0, 0, 0);
-const SEVEN: Call = (6, 1, 0, 7, 0);
-const DROPPED: Call = (7, 1, 0, 0, 0);
-const ADD: Call = (8, 0, 1, 7, 3);
-const PUBLISH: Call = (9, 0, 0, 0, 0);
-const TAKE: Call = (12, 0, 0, 0, 0);
-const RUN: Call = (14, 0, 0, 0, 0);
+const CREATE: Record = Record::of(call::CREATE);
+const DROP: Record = Record::on(1, call::DROP);
+const ENTER: Record = Record::on(1, call::ENTER);
+const GO_ON: Record = Record::on(1, call::GO_ON);
+const RELEASE: Record = Record::on(1, call::RELEASE);
+const SEVEN: Record = Record { key: 7, ..Record::on(1, call::LOOK_UP) };
+const DROPPED: Record = Record::on(1, call::WAS_DROPPED);
+const ADD: Record = Record::append(kind::ADD, 7, 3);
+const PUBLISH: Record = Record::of(call::PUBLISH);
+const TAKE: Record = Record::of(call::TAKE);
+const RUN: Record = Record::of(call::RUN);
+
+const fn done(value: u64) -> Reply {
+    Reply { answer: DONE, value }
+}
+
+const fn held(value: u64) -> Reply {
+    Reply { answer: HELD, value }
+}
+
+const fn only(answer: u8) -> Reply {
+    Reply { answer, value: 0 }
+}
 
 /// The same call by another slot.
-fn of(slot: u8, (call, _, kind, key, amount): Call) -> Call {
-    (call, slot, kind, key, amount)
+fn of(slot: u8, record: Record) -> Record {
+    Record { slot, ..record }
 }
 
 /// A guard lets one publish through and the next one waits for it. While that one waits it keeps the lock, so that
@@ -141,25 +146,25 @@ fn publish(player: Player) -> Result<(), String> {
     ours(
         player,
         &[
-            (CREATE, (0, 1)),
-            (PUBLISH, (0, 0)),
-            (RUN, (0, 17)),
-            (ENTER, (0, 0)),
-            (GO_ON, (0, 0)),
-            (ADD, (0, 0)),
-            (PUBLISH, (0, 0)),
-            (RUN, (0, 35)),
-            (SEVEN, (0, 0)),
-            (PUBLISH, (0, 0)),
-            (RUN, (13, 1)),
-            (CREATE, (7, 0)),
-            (SEVEN, (0, 0)),
-            (RELEASE, (0, 0)),
-            (RUN, (0, 33)),
-            (CREATE, (0, 2)),
-            (ENTER, (0, 0)),
-            (GO_ON, (0, 0)),
-            (SEVEN, (0, 3)),
+            (CREATE, done(1)),
+            (PUBLISH, done(0)),
+            (RUN, done(steps::FIRST_PUBLISH)),
+            (ENTER, done(0)),
+            (GO_ON, done(0)),
+            (ADD, done(0)),
+            (PUBLISH, done(0)),
+            (RUN, done(steps::PUBLISH + 2)),
+            (SEVEN, done(0)),
+            (PUBLISH, done(0)),
+            (RUN, held(1)),
+            (CREATE, only(LOCKED)),
+            (SEVEN, done(0)),
+            (RELEASE, done(0)),
+            (RUN, done(steps::PUBLISH - 1 + 1)),
+            (CREATE, done(2)),
+            (ENTER, done(0)),
+            (GO_ON, done(0)),
+            (SEVEN, done(3)),
         ],
     )
 }
@@ -187,19 +192,19 @@ fn take(player: Player) -> Result<(), String> {
     ours(
         player,
         &[
-            (CREATE, (0, 1)),
-            (ADD, (0, 0)),
-            (PUBLISH, (0, 0)),
-            (RUN, (0, 17)),
-            (ENTER, (0, 0)),
-            (GO_ON, (0, 0)),
-            (TAKE, (0, 0)),
-            (RUN, (13, 19)),
-            (DROPPED, (0, 1)),
-            (ENTER, (15, 0)),
-            (SEVEN, (0, 3)),
-            (RELEASE, (0, 0)),
-            (RUN, (0, 16)),
+            (CREATE, done(1)),
+            (ADD, done(0)),
+            (PUBLISH, done(0)),
+            (RUN, done(steps::FIRST_PUBLISH)),
+            (ENTER, done(0)),
+            (GO_ON, done(0)),
+            (TAKE, done(0)),
+            (RUN, held(1 + 1 + steps::SLOTS + 1)),
+            (DROPPED, done(1)),
+            (ENTER, only(NONE)),
+            (SEVEN, done(3)),
+            (RELEASE, done(0)),
+            (RUN, done(steps::SLOTS - 1 + 1)),
         ],
     )
 }
@@ -222,20 +227,20 @@ fn later_handle(player: Player) -> Result<(), String> {
     ours(
         player,
         &[
-            (CREATE, (0, 1)),
-            (ENTER, (0, 0)),
-            (GO_ON, (0, 0)),
-            (PUBLISH, (0, 0)),
-            (RUN, (0, 17)),
-            (RELEASE, (0, 0)),
-            (DROP, (0, 0)),
-            (CREATE, (0, 1)),
-            (ENTER, (0, 0)),
-            (GO_ON, (0, 0)),
-            (PUBLISH, (0, 0)),
-            (RUN, (13, 1)),
-            (RELEASE, (0, 0)),
-            (RUN, (0, 33)),
+            (CREATE, done(1)),
+            (ENTER, done(0)),
+            (GO_ON, done(0)),
+            (PUBLISH, done(0)),
+            (RUN, done(steps::FIRST_PUBLISH)),
+            (RELEASE, done(0)),
+            (DROP, done(0)),
+            (CREATE, done(1)),
+            (ENTER, done(0)),
+            (GO_ON, done(0)),
+            (PUBLISH, done(0)),
+            (RUN, held(1)),
+            (RELEASE, done(0)),
+            (RUN, done(steps::PUBLISH - 1 + 1)),
         ],
     )
 }
@@ -272,27 +277,27 @@ fn meanwhile(player: Player, behind: bool) -> Result<(), String> {
 
     let (stays, goes) = if behind { (1, 2) } else { (2, 1) };
     let mut calls = vec![
-        (CREATE, (0, 1)),
-        (CREATE, (0, 2)),
-        (of(stays, ENTER), (0, 0)),
-        (of(stays, GO_ON), (0, 0)),
-        (of(goes, ENTER), (0, 0)),
-        (of(goes, GO_ON), (0, 0)),
-        (PUBLISH, (0, 0)),
-        (RUN, (0, 17)),
-        (of(goes, RELEASE), (0, 0)),
-        (of(goes, DROP), (0, 0)),
-        (CREATE, (0, goes.into())),
-        (PUBLISH, (0, 0)),
-        (RUN, (13, stays.into())),
-        (of(goes, ENTER), (0, 0)),
-        (of(goes, GO_ON), (0, 0)),
-        (of(stays, RELEASE), (0, 0)),
+        (CREATE, done(1)),
+        (CREATE, done(2)),
+        (of(stays, ENTER), done(0)),
+        (of(stays, GO_ON), done(0)),
+        (of(goes, ENTER), done(0)),
+        (of(goes, GO_ON), done(0)),
+        (PUBLISH, done(0)),
+        (RUN, done(steps::FIRST_PUBLISH)),
+        (of(goes, RELEASE), done(0)),
+        (of(goes, DROP), done(0)),
+        (CREATE, done(goes.into())),
+        (PUBLISH, done(0)),
+        (RUN, held(stays.into())),
+        (of(goes, ENTER), done(0)),
+        (of(goes, GO_ON), done(0)),
+        (of(stays, RELEASE), done(0)),
     ];
     if behind {
-        calls.extend([(RUN, (13, 1)), (of(goes, RELEASE), (0, 0))]);
+        calls.extend([(RUN, held(1)), (of(goes, RELEASE), done(0))]);
     }
-    calls.push((RUN, (0, 32)));
+    calls.push((RUN, done(steps::PUBLISH - 2 + 1)));
     ours(player, &calls)
 }
 
@@ -314,18 +319,18 @@ fn ends_expose(player: Player) -> Result<(), String> {
     ours(
         player,
         &[
-            (CREATE, (0, 1)),
-            (CREATE, (0, 2)),
-            (PUBLISH, (0, 0)),
-            (RUN, (0, 17)),
-            (ADD, (0, 0)),
-            (ENTER, (0, 0)),
-            (GO_ON, (0, 0)),
-            (TAKE, (0, 0)),
-            (RUN, (13, 38)),
-            (of(2, ENTER), (0, 0)),
-            (of(2, GO_ON), (0, 0)),
-            (of(2, SEVEN), (0, 3)),
+            (CREATE, done(1)),
+            (CREATE, done(2)),
+            (PUBLISH, done(0)),
+            (RUN, done(steps::FIRST_PUBLISH)),
+            (ADD, done(0)),
+            (ENTER, done(0)),
+            (GO_ON, done(0)),
+            (TAKE, done(0)),
+            (RUN, held(1 + steps::PUBLISH + 2 + 1 + 1)),
+            (of(2, ENTER), done(0)),
+            (of(2, GO_ON), done(0)),
+            (of(2, SEVEN), done(3)),
         ],
     )
 }

@@ -1,9 +1,9 @@
 //! Histories of whole calls, played through the crate and by our rules at once.
 
 use crate::world::{work_done, Change, Counts, World, GUARDS, SLOTS};
-use common::Random;
-use lrt::Player;
-use reference::{Machine, Operation, Phase, Record, Reply, DECLINED, DONE, ENTRY, LOGGED, NONE};
+use common::answer::{DECLINED, DONE, NONE};
+use common::{call, file, kind, steps, Player, Random, Record, Reply, ENTRY, LOG_ROOM};
+use reference::{Machine, Operation, Phase};
 use std::sync::Mutex;
 
 /// A whole call: an enter goes on to its end, and publish, try, flush and take are run.
@@ -26,7 +26,24 @@ pub enum Call {
     Inside,
 }
 
-pub const CALLS: usize = 13;
+/// The calls of a history by number: for weights, and to count them.
+mod number {
+    pub const CREATE: usize = 0;
+    pub const DROP: usize = 1;
+    pub const ENTER: usize = 2;
+    pub const RELEASE: usize = 3;
+    pub const LOOK_UP: usize = 4;
+    pub const WAS_DROPPED: usize = 5;
+    pub const APPEND: usize = 6;
+    pub const PUBLISH: usize = 7;
+    pub const TRY: usize = 8;
+    pub const FLUSH: usize = 9;
+    pub const TAKE: usize = 10;
+    pub const TABLE: usize = 11;
+    pub const INSIDE: usize = 12;
+}
+
+pub const CALLS: usize = number::INSIDE + 1;
 pub const NAMES: [&str; CALLS] = [
     "creates",
     "drops",
@@ -46,19 +63,19 @@ pub const NAMES: [&str; CALLS] = [
 impl Call {
     pub fn number(&self) -> usize {
         match self {
-            Call::Create => 0,
-            Call::Drop(..) => 1,
-            Call::Enter(..) => 2,
-            Call::Release(..) => 3,
-            Call::LookUp(..) => 4,
-            Call::WasDropped(..) => 5,
-            Call::Append(..) => 6,
-            Call::Publish => 7,
-            Call::Try => 8,
-            Call::Flush => 9,
-            Call::Take => 10,
-            Call::Table(..) => 11,
-            Call::Inside => 12,
+            Call::Create => number::CREATE,
+            Call::Drop(..) => number::DROP,
+            Call::Enter(..) => number::ENTER,
+            Call::Release(..) => number::RELEASE,
+            Call::LookUp(..) => number::LOOK_UP,
+            Call::WasDropped(..) => number::WAS_DROPPED,
+            Call::Append(..) => number::APPEND,
+            Call::Publish => number::PUBLISH,
+            Call::Try => number::TRY,
+            Call::Flush => number::FLUSH,
+            Call::Take => number::TAKE,
+            Call::Table(..) => number::TABLE,
+            Call::Inside => number::INSIDE,
         }
     }
 }
@@ -95,10 +112,6 @@ impl Met {
 
 /// The seed of the history under way and its calls so far, for the watch if the crate never comes back.
 pub static UNDER_WAY: Mutex<(u64, Vec<Call>)> = Mutex::new((0, Vec::new()));
-
-fn record(call: u8) -> Record {
-    Record { call, slot: 0, guard: 0, kind: 0, key: 0, amount: 0 }
-}
 
 /// One history under way, on three sides: the crate, our rules, and the schedule that the player is given at the end.
 pub struct Run {
@@ -189,7 +202,7 @@ impl Run {
                 self.guarded(slot, guard)
             }
             Call::WasDropped(slot) => self.used(slot),
-            Call::Append(_) => self.writer_free() && (self.machine.first || self.machine.log.len() < LOGGED),
+            Call::Append(_) => self.writer_free() && (self.machine.first || self.machine.log.len() < LOG_ROOM),
             Call::Publish => self.writer_free() && (self.machine.first || self.waits_at().is_none()),
             Call::Flush => {
                 let idle = self.machine.swap_index >= self.machine.log.len();
@@ -211,8 +224,8 @@ impl Run {
         self.records.push(record);
         self.said.push(said);
         self.ruled.push(ruled);
-        if self.apart.is_none() && !agree(said, ruled.answer, ruled.value) {
-            let what = format!("the reference gave {} {}", ruled.answer, ruled.value);
+        if self.apart.is_none() && !agree(said, ruled) {
+            let what = format!("the reference gave {ruled}");
             self.apart = Some(format!("{} {what}, and the crate {}", self.place(self.records.len() - 1), told(said)));
         }
     }
@@ -238,7 +251,7 @@ impl Run {
 
     /// A publish or a flush has not come back.
     fn waited(&mut self, call: u8) -> Outcome {
-        self.records.push(record(call));
+        self.records.push(Record::of(call));
         Err("the crate waits at the last call of this schedule, and our rules do not".to_string())
     }
 
@@ -250,53 +263,54 @@ impl Run {
                 self.highest = self.highest.max(slot);
                 self.created += 1;
                 self.handle[slot] = self.created;
-                self.ours(record(1), DONE, Some(slot as u64));
+                self.ours(Record::of(call::CREATE), DONE, Some(slot as u64));
             }
             Call::Drop(slot) => {
                 self.world.drop_handle(slot);
-                self.ours(Record { slot: slot as u8, ..record(2) }, DONE, Some(0));
+                self.ours(Record::on(slot as u8, call::DROP), DONE, Some(0));
             }
             Call::Enter(slot) => self.enter(slot),
             Call::Release(slot, guard) => {
                 self.world.release(slot, guard);
-                self.ours(Record { slot: slot as u8, guard: guard as u8, ..record(5) }, DONE, Some(0));
+                let release = Record { guard: guard as u8, ..Record::on(slot as u8, call::RELEASE) };
+                self.ours(release, DONE, Some(0));
             }
             Call::LookUp(slot, guard, key) => self.look_up(slot, guard, key),
             Call::WasDropped(slot) => {
                 let dropped = self.world.was_dropped(slot);
-                self.ours(Record { slot: slot as u8, ..record(7) }, DONE, Some(dropped as u64));
+                self.ours(Record::on(slot as u8, call::WAS_DROPPED), DONE, Some(dropped as u64));
             }
             Call::Append(operation) => {
                 let Operation { kind, key, amount } = operation;
                 self.world.append(match kind {
-                    reference::ADD => Change::Add(key, amount),
-                    reference::DROP => Change::Drop(key),
+                    kind::ADD => Change::Add(key, amount),
+                    kind::DROP => Change::Drop(key),
                     _ => Change::Clear,
                 });
                 let work = work_done();
                 if (work.second, work.first) != (self.machine.first as u64, 0) {
                     return Err(format!("the crate applied {work:?} at an append"));
                 }
-                self.ours(Record { kind, key, amount, ..record(8) }, DONE, Some(0));
-                self.met.full_logs += (self.machine.log.len() == LOGGED) as u64;
+                self.ours(Record::append(kind, key, amount), DONE, Some(0));
+                self.met.full_logs += (self.machine.log.len() == LOG_ROOM) as u64;
             }
             Call::Publish => {
-                let polls = if self.machine.first { 0 } else { 16 };
+                let polls = if self.machine.first { 0 } else { steps::SLOTS };
                 if !self.world.publish() {
-                    return self.waited(9);
+                    return self.waited(call::PUBLISH);
                 }
-                self.ours(record(9), DONE, Some(0));
+                self.ours(Record::of(call::PUBLISH), DONE, Some(0));
                 self.publishes(polls);
             }
             Call::Try => {
                 let waits_at = self.waits_at();
                 let swapped = self.world.try_publish();
-                self.ours(record(10), DONE, Some(0));
+                self.ours(Record::of(call::TRY), DONE, Some(0));
                 if swapped {
-                    self.publishes(16);
+                    self.publishes(steps::SLOTS);
                 } else {
                     // How many polls passed before is not seen from outside.
-                    self.ours(record(14), DECLINED, None);
+                    self.ours(Record::of(call::RUN), DECLINED, None);
                     self.met.declined += 1;
                     if let Some(slot) = waits_at {
                         self.met.declined_by_a_later_handle += (self.handle[slot] != self.read_from[slot]) as u64;
@@ -306,11 +320,11 @@ impl Run {
             Call::Flush => {
                 let pending = self.world.has_pending();
                 if !self.world.flush() {
-                    return self.waited(11);
+                    return self.waited(call::FLUSH);
                 }
-                self.ours(record(11), DONE, Some(pending as u64));
+                self.ours(Record::of(call::FLUSH), DONE, Some(pending as u64));
                 if pending {
-                    self.publishes(16);
+                    self.publishes(steps::SLOTS);
                 } else {
                     self.met.idle_flushes += 1;
                     let work = work_done();
@@ -329,19 +343,19 @@ impl Run {
     fn enter(&mut self, slot: usize) {
         let outside = self.guards(slot) == 0;
         let guard = self.world.enter(slot);
-        let with = |call| Record { slot: slot as u8, ..record(call) };
+        let with = |call| Record::on(slot as u8, call);
         if outside {
-            self.ours(with(3), DONE, Some(0));
+            self.ours(with(call::ENTER), DONE, Some(0));
         }
         // The load is the first call's where a guard was open, and the next call's where none was.
-        let load = if outside { 4 } else { 3 };
+        let load = if outside { call::GO_ON } else { call::ENTER };
         match guard {
             Some(guard) => self.ours(with(load), DONE, Some(guard as u64)),
             None => {
                 self.met.none += 1;
                 self.ours(with(load), NONE, Some(0));
                 if outside {
-                    self.ours(with(4), NONE, Some(0));
+                    self.ours(with(call::GO_ON), NONE, Some(0));
                 }
             }
         }
@@ -351,14 +365,15 @@ impl Run {
 
     fn look_up(&mut self, slot: usize, guard: usize, key: u64) {
         let count = self.world.counts(slot, guard).pairs.get(&key).copied();
-        self.ours(Record { slot: slot as u8, guard: guard as u8, key, ..record(6) }, DONE, Some(count.unwrap_or(0)));
+        let record = Record { guard: guard as u8, key, ..Record::on(slot as u8, call::LOOK_UP) };
+        self.ours(record, DONE, Some(count.unwrap_or(0)));
     }
 
     /// The run of a publish that was not held: each change that the crate made to its tables is a step of ours.
     fn publishes(&mut self, polls: u64) {
         let work = work_done();
-        let steps = polls + work.synchronised + work.second + work.first + 1 + 16;
-        self.ours(record(14), DONE, Some(steps));
+        let steps = polls + work.synchronised + work.second + work.first + steps::FIRST_PUBLISH;
+        self.ours(Record::of(call::RUN), DONE, Some(steps));
         self.swapped();
     }
 
@@ -371,9 +386,10 @@ impl Run {
         work_done();
         let ended = self.world.take();
         let work = work_done();
-        let polls = if shown.first { 0 } else { 16 };
-        let steps = publishes * (1 + polls + 1 + 16) + work.synchronised + work.second + work.first + 35;
-        self.ours(record(12), DONE, Some(0));
+        let polls = if shown.first { 0 } else { steps::SLOTS };
+        let applied = work.synchronised + work.second + work.first;
+        let steps = publishes * (1 + polls + steps::FIRST_PUBLISH) + applied + steps::TAKE_END;
+        self.ours(Record::of(call::TAKE), DONE, Some(0));
         // Ours is run up to its last step, to see the copy that this one lets go of.
         let mut made = 0;
         while self.machine.phase != Phase::Finish {
@@ -388,7 +404,7 @@ impl Run {
         same("the copy that take hands over", Some(&ended.handed), self.machine.copies[kept].view())?;
         let last = self.machine.run();
         let whole = Reply { answer: last.answer, value: made + last.value };
-        self.both(record(14), (DONE, Some(steps)), whole);
+        self.both(Record::of(call::RUN), (DONE, Some(steps)), whole);
         Ok(())
     }
 
@@ -428,8 +444,8 @@ impl Run {
             .log
             .iter()
             .map(|operation| match operation.kind {
-                reference::ADD => format!("Add({}, {})", operation.key, operation.amount),
-                reference::DROP => format!("Drop({})", operation.key),
+                kind::ADD => format!("Add({}, {})", operation.key, operation.amount),
+                kind::DROP => format!("Drop({})", operation.key),
                 _ => "Clear".to_string(),
             })
             .collect();
@@ -447,29 +463,29 @@ impl Run {
     /// Plays the schedule and holds each entry against what the crate said, and then against our rules.
     pub fn judge(&mut self, player: Player) -> Result<Agreed, String> {
         self.met.records = self.records.len() as u64;
-        let bytes = reference::schedule(&self.records);
+        let bytes = common::schedule(&self.records);
         let mut out = vec![0; self.records.len() * ENTRY];
         let played = player(&bytes, &mut out);
-        if played != (0, out.len() as u64) {
+        if played != (file::PLAYED, out.len() as u64) {
             return Err(format!("the player said {played:?} of a schedule of {} records", self.records.len()));
         }
         for (at, entry) in out.chunks_exact(ENTRY).enumerate() {
-            let (answer, value) = (entry[0], u64::from_le_bytes(entry[1..].try_into().unwrap()));
-            let gave = format!("{} the player gave {answer} {value}", self.place(at));
-            if !agree(self.said[at], answer, value) {
+            let reply = Reply::from_bytes(entry);
+            let gave = format!("{} the player gave {reply}", self.place(at));
+            if !agree(self.said[at], reply) {
                 return Err(format!("{gave}, and the crate {}", told(self.said[at])));
             }
             let ruled = self.ruled[at];
-            if (answer, value) != (ruled.answer, ruled.value) {
-                return Err(format!("{gave}, and the reference {} {}", ruled.answer, ruled.value));
+            if reply != ruled {
+                return Err(format!("{gave}, and the reference {ruled}"));
             }
         }
         Ok((bytes, out))
     }
 }
 
-fn agree(said: (u8, Option<u64>), answer: u8, value: u64) -> bool {
-    said.0 == answer && said.1.is_none_or(|said| said == value)
+fn agree(said: (u8, Option<u64>), reply: Reply) -> bool {
+    said.0 == reply.answer && said.1.is_none_or(|said| said == reply.value)
 }
 
 fn told((answer, value): (u8, Option<u64>)) -> String {
@@ -563,14 +579,16 @@ impl Plan {
             *weight = choose.pick(&[0, 1, 1, 3, 9]);
         }
         // Without these nothing happens.
-        for (at, least) in [(0, 1), (2, 2), (3, 1), (6, 1), (7, 1)] {
+        let least =
+            [(number::CREATE, 1), (number::ENTER, 2), (number::RELEASE, 1), (number::APPEND, 1), (number::PUBLISH, 1)];
+        for (at, least) in least {
             weights[at] = weights[at].max(least);
         }
-        weights[10] = choose.chance(1, 3) as usize;
-        weights[12] = weights[12].min(1);
+        weights[number::TAKE] = choose.chance(1, 3) as usize;
+        weights[number::INSIDE] = weights[number::INSIDE].min(1);
         let mut plan = Plan {
             calls: 10 + choose.below(70),
-            slots: choose.pick(&[1, 2, 3, 5, 15]),
+            slots: choose.pick(&[1, 2, 3, 5, SLOTS - 1]),
             keys: choose.pick(&[1, 2, 4, 9]),
             spread: choose.pick(&[1, 1, u64::MAX / 9]),
             large: choose.chance(1, 3),
@@ -582,8 +600,8 @@ impl Plan {
             plan.keys = choose.pick(&[9, 300, 700]);
             plan.spread = choose.pick(&[1, 3, u64::MAX / 700]);
             plan.weights = plan.weights.map(|weight| weight.min(2));
-            plan.weights[6] = choose.pick(&[60, 600]);
-            plan.weights[10] = 0;
+            plan.weights[number::APPEND] = choose.pick(&[60, 600]);
+            plan.weights[number::TAKE] = 0;
         }
         plan
     }
@@ -606,20 +624,20 @@ impl Plan {
         let (inside, guard) = if open.is_empty() { (0, 0) } else { choose.pick(&open) };
         let freed = run.freed() > 0 && choose.chance(1, 2);
         let call = match choose.weighed(&self.weights) {
-            1 | 2 if freed => Call::Create,
-            0 if used.len() > self.slots && !freed && !choose.chance(1, 8) => Call::Enter(slot),
-            0 => Call::Create,
-            1 => Call::Drop(slot),
-            2 => Call::Enter(slot),
-            3 => Call::Release(inside, guard),
-            4 => Call::LookUp(inside, guard, self.key(choose)),
-            5 => Call::WasDropped(slot),
-            6 => Call::Append(self.operation(choose)),
-            7 => Call::Publish,
-            8 => Call::Try,
-            9 => Call::Flush,
-            10 => Call::Take,
-            11 => Call::Table(inside, guard),
+            number::DROP | number::ENTER if freed => Call::Create,
+            number::CREATE if used.len() > self.slots && !freed && !choose.chance(1, 8) => Call::Enter(slot),
+            number::CREATE => Call::Create,
+            number::DROP => Call::Drop(slot),
+            number::ENTER => Call::Enter(slot),
+            number::RELEASE => Call::Release(inside, guard),
+            number::LOOK_UP => Call::LookUp(inside, guard, self.key(choose)),
+            number::WAS_DROPPED => Call::WasDropped(slot),
+            number::APPEND => Call::Append(self.operation(choose)),
+            number::PUBLISH => Call::Publish,
+            number::TRY => Call::Try,
+            number::FLUSH => Call::Flush,
+            number::TAKE => Call::Take,
+            number::TABLE => Call::Table(inside, guard),
             _ => Call::Inside,
         };
         match call {
@@ -638,11 +656,11 @@ impl Plan {
         // Clears are rare, else no table grows.
         match choose.below(if self.keys > 9 { 60 } else { 12 }) {
             0 if choose.chance(1, if self.keys > 9 { 40 } else { 4 }) => {
-                Operation { kind: reference::CLEAR, key: 0, amount: 0 }
+                Operation { kind: kind::CLEAR, key: 0, amount: 0 }
             }
-            0..=2 => Operation { kind: reference::DROP, key, amount: 0 },
-            _ if self.large => Operation { kind: reference::ADD, key, amount: u64::MAX - choose.word() % 3 },
-            _ => Operation { kind: reference::ADD, key, amount: 1 + choose.word() % 5 },
+            0..=2 => Operation { kind: kind::DROP, key, amount: 0 },
+            _ if self.large => Operation { kind: kind::ADD, key, amount: u64::MAX - choose.word() % 3 },
+            _ => Operation { kind: kind::ADD, key, amount: 1 + choose.word() % 5 },
         }
     }
 }
@@ -650,12 +668,12 @@ impl Plan {
 /// Simpler calls that may stand in for one, to make a difference easier to read.
 pub fn simpler(call: &Call) -> Vec<Call> {
     match *call {
-        Call::Append(Operation { kind: reference::ADD, key, amount }) => {
-            let add = |key, amount| Call::Append(Operation { kind: reference::ADD, key, amount });
+        Call::Append(Operation { kind: kind::ADD, key, amount }) => {
+            let add = |key, amount| Call::Append(Operation { kind: kind::ADD, key, amount });
             vec![add(1, 1), add(key, 1), add(1, amount)]
         }
         Call::Append(Operation { kind, .. }) => {
-            vec![Call::Append(Operation { kind, key: if kind == reference::DROP { 1 } else { 0 }, amount: 0 })]
+            vec![Call::Append(Operation { kind, key: if kind == kind::DROP { 1 } else { 0 }, amount: 0 })]
         }
         Call::LookUp(slot, guard, _) => vec![Call::LookUp(slot, guard, 1), Call::LookUp(slot, guard, 0)],
         Call::Flush => vec![Call::Publish],

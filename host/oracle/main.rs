@@ -15,8 +15,8 @@ mod history;
 mod sample;
 mod world;
 
+use common::Player;
 use history::{random, replay, simpler, Call, Met, NAMES, UNDER_WAY};
-use lrt::Player;
 use std::panic::{catch_unwind, set_hook, AssertUnwindSafe};
 use std::process::{exit, ExitCode};
 use std::sync::atomic::{AtomicU64, Ordering};

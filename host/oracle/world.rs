@@ -4,6 +4,7 @@ use left_right::{Absorb, ReadGuard, ReadHandle, ReadHandleFactory, Taken, WriteH
 use std::cell::{Cell, RefCell};
 use std::collections::BTreeMap;
 
+// The sizes once more: this side takes nothing from the other, so that the two can judge each other.
 pub const SLOTS: usize = 16;
 pub const GUARDS: usize = 4;
 const PAIRS: usize = 512;

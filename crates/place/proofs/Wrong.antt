@@ -3,14 +3,13 @@
 use Prim.Native.Nat.{ℕ}
 use mathlib.Core.Path.{_≡_, refl}
 use mathlib.Core.Bool.{true, false}
-use mathlib.Core.List.{[], _∷_}
-use lib.ListN.{getD}
+use lib.ListN.{set, getD}
 use Rattle.table.specs.Answers.{number}
 use Rattle.table.proofs.Computes.{apart}
 use Rattle.table.specs.declared.Answer.the-variants.{Done, NoGuard}
 use Rattle.read.specs.declared.Due.the-variants.{Nothing}
 use Rattle.read.specs.declared.Slot.{Slot}
-use Rattle.read.specs.Machine.{shut}
+use Rattle.read.specs.Machine.{openOn, noGuards, withReading, newSlot, shut}
 use Rattle.read.specs.Handles.{released}
 use Rattle.read.proofs.Computes.{rules}
 use Rattle.place.specs.declared.Released.{Released}
@@ -25,13 +24,13 @@ says leave f h j s = h j s
 
 -- a handle inside, with guard 0 alone
 abbrev inside : Slot
-inside = record { used = true; epoch = 1; guards = record { opened = true; right = false } ∷ shut ∷ shut ∷ shut ∷ []; due = Nothing }
+inside = withReading 1 (set noGuards 0 (openOn false)) Nothing newSlot
 
 -- the last guard leaves the epoch
 abbrev leavesEpoch : ℕ → Slot → Released
 leavesEpoch guard s =
     let r = releaseRule guard s in
-    record { answer = r .answer; slot = record { used = s .used; epoch = s .epoch; guards = r .slot .guards; due = s .due } }
+    record { answer = r .answer; slot = withReading (s .epoch) (r .slot .guards) (s .due) s }
 
 leavesEpoch-wrong : (k : Function) → Promise k leavesEpoch → ⊥
 unfolding releaseRule rules
@@ -41,7 +40,7 @@ leavesEpoch-wrong k h = apart (λ r. r .slot .epoch) refl (says k leavesEpoch h 
 abbrev leavesGuard : ℕ → Slot → Released
 leavesGuard guard s =
     let r = releaseRule guard s in
-    record { answer = r .answer; slot = record { used = s .used; epoch = r .slot .epoch; guards = s .guards; due = s .due } }
+    record { answer = r .answer; slot = withReading (r .slot .epoch) (s .guards) (s .due) s }
 
 leavesGuard-wrong : (k : Function) → Promise k leavesGuard → ⊥
 unfolding releaseRule rules

@@ -22,11 +22,26 @@ use Rattle.read.specs.declared.Verdict.the-variants.{Admitted, Refused}
 use Rattle.read.specs.declared.State.{State}
 use Rattle.read.specs.declared.Made.{Made}
 use Rattle.read.specs.declared.Reply.{Reply}
-use Rattle.read.specs.Machine.{slotCount, newSlot, fresh, logRoom, logWords, guardCount, shut, isOpen, standsRight, putGuard, firstGuard, anyOpen, allOpen, isLoad, wholeControl, sized, glanced, judged, firstUnlawful}
+use Rattle.read.specs.Machine.{withReading, slotCount, newSlot, fresh, logRoom, logWords, guardCount, shut, isOpen, standsRight, putGuard, firstGuard, anyOpen, allOpen, isLoad, wholeControl, sized, glanced, judged, firstUnlawful}
 use Rattle.read.specs.Handles.{copyOf, guardedCopy, bumped, withDue, guarded, loaded, entered, released, lacksRoom, smallest, handleSigns, handled, handleOn}
 use Rattle.read.specs.Calls.{slotAt, withSlot, refusal, lent, firstFree, createSigns, handleReply, handleRule, createReply, createRule, throughGuard, throughRule, startRule}
 use Rattle.read.proofs.Tests.{and-left, and-right, and-false}
 use Rattle.read.proofs.Verdicts.{refused-admitted, admitted-clear}
+
+-- another lock than the phase asks
+abbrev pub withLock : Bool → Control → Control
+withLock lock c =
+    record {
+      right = c .right;
+      null = c .null;
+      lock = lock;
+      first = c .first;
+      second = c .second;
+      phase = c .phase;
+      job = c .job;
+      length = c .length;
+      swapped = c .swapped;
+    }
 
 -- ---- guards
 
@@ -74,16 +89,19 @@ module _ (c : Control) (s : Slot) where
       anyOpen (s .guards) ≡ false → entered c s ≡ record { answer = answer.Done; value = 0; slot = withDue (bumped (s .epoch)) Load s }
   entered-outside e = rw (e, entered)
 
-module _ (j : ℕ) (s : Slot) where
-  pub released-one :
-      anyOpen (putGuard j shut (s .guards)) ≡ true →
-      released j s ≡ record { used = s .used; epoch = s .epoch; guards = putGuard j shut (s .guards); due = s .due }
-  released-one e = rw (e, released)
+-- by whether a guard stays open behind guard j, which is shut by x
+module _ (j : ℕ) (s : Slot) {x : Guard} {gs : List Guard} {b : Bool} (e : x ≡ shut) (f : gs ≡ putGuard j x (s .guards)) (q : b ≡ anyOpen gs) where
+  gs-is : gs ≡ putGuard j shut (s .guards)
+  gs-is = f ∙ ap (λ (x : Guard). putGuard j x (s .guards)) e
 
-  pub released-last :
-      anyOpen (putGuard j shut (s .guards)) ≡ false →
-      released j s ≡ record { used = s .used; epoch = bumped (s .epoch); guards = putGuard j shut (s .guards); due = s .due }
-  released-last e = rw (e, released)
+  pub released-one : {r : Slot} → b ≡ true → r ≡ withReading (s .epoch) gs (s .due) s → r ≡ released j s
+  released-one o h =
+      h ∙ ap (λ (gs : List Guard). withReading (s .epoch) gs (s .due) s) gs-is
+      ∙ sym (rw (ap anyOpen (sym gs-is) ∙ sym q ∙ o, released))
+
+  pub released-last : {d : ℕ} {r : Slot} → b ≡ false → d ≡ bumped (s .epoch) → r ≡ withReading d gs (s .due) s → r ≡ released j s
+  released-last o u h =
+      h ∙ (λ i. withReading (u i) (gs-is i) (s .due) s) ∙ sym (rw (ap anyOpen (sym gs-is) ∙ sym q ∙ o, released))
 
 -- ---- room for a guard
 

@@ -1,7 +1,7 @@
 -- The epoch of a slot is odd exactly where a guard is open or a step is due: what every call on a handle keeps, also where the
 -- epoch goes round.
 use Prim.Native.Nat.{ℕ, zero, suc, _+_, _-_, _%_, _^_, _<_}
-use mathlib.Core.Path.{_≡_, refl, sym, ap, ap₂, subst⁻¹, _∙_}
+use mathlib.Core.Path.{_≡_, refl, sym, ap, ap₂, subst, subst⁻¹, _∙_}
 use mathlib.Core.Bool.{Bool, true, false, not, _||_, true≢false}
 use mathlib.Core.List.{List, [], _∷_}
 use native.Mathlib.Omega.{arith}
@@ -152,14 +152,14 @@ module _ (s : Slot) (f : Fitting s) where
       let before : anyOpen (s .guards) ≡ true = any-open (s .guards) j o in
       let four : length gs ≡ guardCount = length-put j shut (s .guards) ∙ f .four in
       split (anyOpen gs)
-      (λ a. subst⁻¹ Fitting (released-one j s a)
+      (λ a. subst Fitting (released-one j s refl refl refl a refl)
       (record {
         parity = odd-open before ∙ sym (ap (λ (b : Bool). b || isDue (s .due)) a);
         alone = λ e. absurd (true≢false (sym e ∙ not-due before));
         four = four;
         small = f .small;
       }))
-      (λ a. subst⁻¹ Fitting (released-last j s a)
+      (λ a. subst Fitting (released-last j s refl refl refl a refl refl)
       (record {
         parity = odd-bumped (s .epoch) ∙ ap not (odd-open before) ∙ sym (ap₂ _||_ a (not-due before));
         alone = λ e. a;

@@ -26,7 +26,7 @@ use Rattle.read.specs.declared.Verdict.the-variants.{Admitted, Refused}
 use Rattle.read.specs.declared.Signs.{Signs}
 use Rattle.read.specs.declared.Made.{Made}
 use Rattle.read.specs.declared.Reply.{Reply}
-use Rattle.read.specs.Machine.{slotCount, guardCount, logWords, shut, noGuards, isOpen, standsRight, putGuard, same, firstGuard, anyOpen, allOpen, isDue, isLoad, noSlot, newSlot, isGone, underway, wholeControl, glanced, judged, fresh}
+use Rattle.read.specs.Machine.{standing, holding, openOn, withUse, withReading, slotCount, guardCount, logWords, shut, noGuards, isOpen, standsRight, putGuard, same, firstGuard, anyOpen, allOpen, isDue, isLoad, noSlot, newSlot, isGone, underway, wholeControl, glanced, judged, fresh}
 use Rattle.read.specs.Admission.{row, column, entry}
 use Rattle.read.specs.Handles.{smallest, handleSigns, bumped, withDue, loaded, entered, wentOn, released, copyOf}
 use Rattle.read.specs.Calls.{slotAt, withSlot, refusal, Lent, lent, handleReply, firstFree, handleRule, createRule, viewRule, pairRule, startRule}
@@ -40,6 +40,7 @@ use Rattle.read.proofs.Promises.{HandlePromise, EitherPromise, Smallest
 use Rattle.read.proofs.Promises.{SizedPromise, GlancePromise, JudgePromise, StartPromise, CreatePromise, DropPromise, EnterPromise}
 use Rattle.read.proofs.Promises.{GoOnPromise, WasDroppedPromise, OnHandlePromise, ReleasePromise, LookUpPromise, ViewPromise}
 use Rattle.read.proofs.Promises.{PairPromise}
+use Rattle.read.proofs.Cases.{withLock}
 
 -- ---- what the witnesses are made of
 
@@ -84,10 +85,10 @@ noWords = slice [] refl
 
 -- guards on the left and on the right copy
 abbrev onLeft : Guard
-onLeft = record { opened = true; right = false }
+onLeft = openOn false
 
 abbrev onRight : Guard
-onRight = record { opened = true; right = true }
+onRight = openOn true
 
 abbrev one : List Guard
 one = onLeft ∷ shut ∷ shut ∷ shut ∷ []
@@ -102,11 +103,11 @@ abbrev right : List Guard
 right = onRight ∷ shut ∷ shut ∷ shut ∷ []
 
 abbrev four : List Guard
-four = replicate 4 onLeft
+four = replicate guardCount onLeft
 
 -- a slot in use, and a machine with it in slot 1
 abbrev slotWith : ℕ → List Guard → Due → Slot
-slotWith e gs d = record { used = true; epoch = e; guards = gs; due = d }
+slotWith e gs d = withReading e gs d newSlot
 
 abbrev machine : Slot → State
 machine s = withSlot 1 s fresh
@@ -114,30 +115,28 @@ machine s = withSlot 1 s fresh
 abbrev controlled : Control → State → State
 controlled c st = record { control = c; slots = st .slots; snapshots = st .snapshots }
 
+abbrev snapped : List ℕ → State → State
+snapped es st = record { control = st .control; slots = st .slots; snapshots = es }
+
 -- idle; under way, with the lock; at take's finish; after it
 abbrev idle : Control
 idle = fresh .control
 
 abbrev polling : Control
-polling =
-    record { right = false; null = false; lock = true; first = false; second = true; phase = Poll 0; job = Publish; length = 0; swapped = 0 }
+polling = holding false false false true 0 0 (standing (Poll 0) Publish idle)
 
 abbrev finishing : Control
-finishing =
-    record { right = false; null = true; lock = true; first = false; second = false; phase = Phase.Finish; job = Publish; length = 0; swapped = 0 }
+finishing = holding false true false false 0 0 (standing Phase.Finish Publish idle)
 
 abbrev gone : Control
-gone =
-    record { right = false; null = true; lock = false; first = false; second = false; phase = Gone; job = Publish; length = 0; swapped = 0 }
+gone = holding false true false false 0 0 (standing Gone Publish idle)
 
 -- broken by itself: idle with the lock; and by its log: one operation, which is none in `noLog`
 abbrev broken : Control
-broken =
-    record { right = false; null = false; lock = true; first = true; second = true; phase = Idle; job = Publish; length = 0; swapped = 0 }
+broken = withLock true idle
 
 abbrev unlawful : Control
-unlawful =
-    record { right = false; null = false; lock = false; first = false; second = true; phase = Idle; job = Publish; length = 1; swapped = 0 }
+unlawful = holding false false false true 1 0 idle
 
 -- ---- admission
 
@@ -268,7 +267,7 @@ epochOne-new-wrong h = apart (λ s. s .epoch) refl (h refl)
 
 -- drop clears the epoch
 abbrev dropsEpoch : Slot → Slot
-dropsEpoch s = record { used = false; epoch = 0; guards = s .guards; due = s .due }
+dropsEpoch s = withReading 0 (s .guards) (s .due) (withUse false s)
 
 dropsEpoch-wrong : FreedPromise dropsEpoch → ⊥
 dropsEpoch-wrong h = apart (λ s. s .epoch) refl (h (slotWith 4 noGuards Nothing) refl)
@@ -319,7 +318,7 @@ nullEnds-wrong h = apart (λ m. bit (isDue (m .slot .due))) refl (h gone (slotWi
 
 -- release adds to the epoch at every guard
 abbrev bumpsEach : ℕ → Slot → Slot
-bumpsEach j s = record { used = s .used; epoch = bumped (s .epoch); guards = putGuard j shut (s .guards); due = s .due }
+bumpsEach j s = withReading (bumped (s .epoch)) (putGuard j shut (s .guards)) (s .due) s
 
 bumpsEach-wrong : ReleasedPromise bumpsEach → ⊥
 unfolding rules
@@ -330,7 +329,7 @@ abbrev stopsAtEnd : ℕ → Slot → Slot
 stopsAtEnd j s =
     let t = released j s in
     elim (ltb (t .epoch) (s .epoch))
-    [ true ↦ record { used = t .used; epoch = s .epoch; guards = t .guards; due = t .due } | false ↦ t ]
+    [ true ↦ withReading (s .epoch) (t .guards) (t .due) t | false ↦ t ]
 
 stopsAtEnd-wrong : ReleasedPromise stopsAtEnd → ⊥
 unfolding rules
@@ -610,7 +609,7 @@ clearsSnapshot l r g st =
           record {
             answer = q .answer;
             value = q .value;
-            state = record { control = q .state .control; slots = q .state .slots; snapshots = set (q .state .snapshots) (q .value) 0 };
+            state = snapped (set (q .state .snapshots) (q .value) 0) (q .state);
           }
       | false ↦ q
     ]
@@ -619,7 +618,7 @@ create-clears-wrong : CreatePromise clearsSnapshot → ⊥
 unfolding rules
 create-clears-wrong h =
     apart (λ q. getD (q .state .snapshots) 1 0) refl
-    (h none none noLog (record { control = idle; slots = fresh .slots; snapshots = replicate 16 5 }) refl)
+    (h none none noLog (snapped (replicate slotCount 5) fresh) refl)
 
 -- the lock does not matter
 abbrev createsLocked : List ℕ → List ℕ → List ℕ → State → Reply

@@ -18,7 +18,7 @@ use Rattle.read.specs.declared.Verdict.{Verdict}
 use Rattle.read.specs.declared.Verdict.the-variants.{Admitted, Refused}
 use Rattle.read.specs.declared.Signs.{Signs}
 use Rattle.read.specs.declared.Made.{Made}
-use Rattle.read.specs.Machine.{shut, isOpen, standsRight, putGuard, firstGuard, anyOpen, allOpen, isDue, isLoad}
+use Rattle.read.specs.Machine.{shut, openOn, withUse, withReading, isOpen, standsRight, putGuard, firstGuard, anyOpen, allOpen, isDue, isLoad}
 use Rattle.read.specs.Admission.{column, entry}
 
 -- ---- which refusal is given
@@ -99,21 +99,16 @@ abbrev pub bumped : ℕ → ℕ
 bumped e = (e + 1) % 2 ^ 64
 
 abbrev pub withDue : ℕ → Due → Slot → Slot
-withDue e d s = record { used = s .used; epoch = e; guards = s .guards; due = d }
+withDue e d s = withReading e (s .guards) d s
 
 -- the slot is free; all else stays
 abbrev pub freed : Slot → Slot
-freed s = record { used = false; epoch = s .epoch; guards = s .guards; due = s .due }
+freed s = withUse false s
 
 -- the lowest free guard opens on a side
 abbrev pub guarded : Bool → Slot → Slot
 guarded right s =
-    record {
-      used = s .used;
-      epoch = s .epoch;
-      guards = putGuard (firstGuard false (s .guards)) (record { opened = true; right = right }) (s .guards);
-      due = Nothing;
-    }
+    withReading (s .epoch) (putGuard (firstGuard false (s .guards)) (openOn right) (s .guards)) Nothing s
 
 -- the load: d is what is due where the pointer is null
 abbrev pub loaded : Control → Due → Slot → Made
@@ -139,7 +134,7 @@ wentOn c Restore s = record { answer = answer.None; value = 0; slot = withDue (b
 abbrev pub released : ℕ → Slot → Slot
 released j s =
     let gs = putGuard j shut (s .guards) in
-    record { used = s .used; epoch = elim (anyOpen gs) [ true ↦ s .epoch | false ↦ bumped (s .epoch) ]; guards = gs; due = s .due }
+    withReading (elim (anyOpen gs) [ true ↦ s .epoch | false ↦ bumped (s .epoch) ]) gs (s .due) s
 
 -- the copy that guard j stands on
 abbrev pub copyOf : Bool → List ℕ → List ℕ → List ℕ

@@ -13,6 +13,7 @@ use Rattle.read.specs.declared.Guard.{Guard}
 use Rattle.read.specs.declared.Slot.{Slot}
 use Rattle.read.specs.declared.Phase.{Phase}
 use Rattle.read.specs.declared.Phase.the-variants.{Idle, Begin, Poll, Copy, Drain, Keep, Swap, Snap, Null, Lock, LastSnap, LastPoll, Finish, Gone}
+use Rattle.read.specs.declared.Job.{Job}
 use Rattle.read.specs.declared.Job.the-variants.{Publish}
 use Rattle.read.specs.declared.Control.{Control}
 use Rattle.read.specs.declared.State.{State}
@@ -42,6 +43,10 @@ logWords = 3 * logRoom
 
 abbrev pub shut : Guard
 shut = record { opened = false; right = false }
+
+-- a guard that opens on a side
+abbrev pub openOn : Bool → Guard
+openOn right = record { opened = true; right = right }
 
 abbrev pub noGuards : List Guard
 noGuards = replicate guardCount shut
@@ -84,9 +89,17 @@ isLoad Restore = false
 abbrev pub noSlot : Slot
 noSlot = record { used = false; epoch = 0; guards = noGuards; due = Nothing }
 
+-- in use or free, and all else stays
+abbrev pub withUse : Bool → Slot → Slot
+withUse u s = record { used = u; epoch = s .epoch; guards = s .guards; due = s .due }
+
+-- epoch, guards and what is due; the rest stays
+abbrev pub withReading : ℕ → List Guard → Due → Slot → Slot
+withReading e gs d s = record { used = s .used; epoch = e; guards = gs; due = d }
+
 -- a new handle
 abbrev pub newSlot : Slot
-newSlot = record { used = true; epoch = 0; guards = noGuards; due = Nothing }
+newSlot = withUse true noSlot
 
 -- ---- the writer's phases
 
@@ -218,6 +231,36 @@ judged c l r g =
 abbrev pub freshControl : Control
 freshControl =
     record { right = false; null = false; lock = false; first = true; second = true; phase = Idle; job = Publish; length = 0; swapped = 0 }
+
+-- where the writer stands, with the lock that fits it; the rest stays
+abbrev pub standing : Phase → Job → Control → Control
+standing p j c =
+    record {
+      right = c .right;
+      null = c .null;
+      lock = locks p;
+      first = c .first;
+      second = c .second;
+      phase = p;
+      job = j;
+      length = c .length;
+      swapped = c .swapped;
+    }
+
+-- the pointer's side, whether it is null, `first`, `second`, the log's length and the swap index; the rest stays
+abbrev pub holding : Bool → Bool → Bool → Bool → ℕ → ℕ → Control → Control
+holding right null first second n s c =
+    record {
+      right = right;
+      null = null;
+      lock = c .lock;
+      first = first;
+      second = second;
+      phase = c .phase;
+      job = c .job;
+      length = n;
+      swapped = s;
+    }
 
 -- slot 0 is the writer's own handle
 abbrev pub fresh : State

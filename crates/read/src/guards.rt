@@ -8,7 +8,7 @@ use crate::Slot;
 use crate::judge;
 use table::Answer;
 ghost use mathlib.Core.Path.{_≡_};
-ghost use Rattle.read.specs.Machine.{isOpen, putGuard, firstGuard, anyOpen, allOpen, isDue, isLoad, noSlot, newSlot, noGuards};
+ghost use Rattle.read.specs.Machine.{shut as shutRule, openOn, isOpen, putGuard, firstGuard, anyOpen, allOpen, isDue, isLoad, noSlot, withReading, newSlot, noGuards};
 ghost use Rattle.read.specs.Handles.{withDue, freed as freedRule, guarded as guardedRule, loaded as loadedRule, entered as enteredRule, wentOn, released as releasedRule};
 
 // The first guard that is open, or that is shut, by what is wanted; their number where there is none.
@@ -68,14 +68,20 @@ pub fn is_load(d: Due) -> bool
     }
 }
 
+fn shut() -> Guard
+    ensures { λ r. ⌜ r ≡ shutRule ⌝ }
+{
+    Guard {
+        opened: false,
+        right: false,
+    }
+}
+
 fn no_guards() -> [Guard; GUARDS]
     ensures { λ r. ⌜ r ≡ noGuards ⌝ }
 {
-    let shut = Guard {
-        opened: false,
-        right: false,
-    };
-    [shut; GUARDS]
+    let g = shut();
+    [g; GUARDS]
 }
 
 pub fn no_slot() -> Slot
@@ -98,17 +104,23 @@ pub fn new_slot() -> Slot
     s
 }
 
-// The slot with another epoch and another step due.
-fn with_due(epoch: u64, d: Due, s: Slot) -> Slot
-    ensures { λ r. ⌜ r ≡ withDue epoch d s ⌝ }
+// The slot with another epoch, other guards and another step due; the rest stays.
+fn with_reading(epoch: u64, g: [Guard; GUARDS], d: Due, s: Slot) -> Slot
+    ensures { λ r. ⌜ r ≡ withReading epoch g d s ⌝ }
 {
-    let g = s.guards;
     Slot {
         used: s.used,
         epoch: epoch,
         guards: g,
         due: d,
     }
+}
+
+fn with_due(epoch: u64, d: Due, s: Slot) -> Slot
+    ensures { λ r. ⌜ r ≡ withDue epoch d s ⌝ }
+{
+    let g = s.guards;
+    with_reading(epoch, g, d, s)
 }
 
 // The slot is free; its epoch stays.
@@ -141,12 +153,7 @@ fn guarded(right: bool, s: Slot) -> Slot
         right: right,
     };
     let after = put_guard(first_guard(false, g), x, g);
-    Slot {
-        used: s.used,
-        epoch: s.epoch,
-        guards: after,
-        due: Due::Nothing,
-    }
+    with_reading(s.epoch, after, Due::Nothing, s)
 }
 
 // The load: `d` is what is due where the pointer is null.
@@ -213,25 +220,11 @@ pub fn went_on(c: Control, s: Slot) -> Made
 pub fn released(j: usize, s: Slot) -> Slot
     ensures { λ r. ⌜ r ≡ releasedRule j s ⌝ }
 {
-    let shut = Guard {
-        opened: false,
-        right: false,
-    };
     let before = s.guards;
-    let g = put_guard(j, shut, before);
+    let g = put_guard(j, shut(), before);
     let d = s.due;
     if any_open(g) {
-        return Slot {
-            used: s.used,
-            epoch: s.epoch,
-            guards: g,
-            due: d,
-        };
+        return with_reading(s.epoch, g, d, s);
     }
-    Slot {
-        used: s.used,
-        epoch: std::num::wrapping_add_u64(s.epoch, 1),
-        guards: g,
-        due: d,
-    }
+    with_reading(std::num::wrapping_add_u64(s.epoch, 1), g, d, s)
 }

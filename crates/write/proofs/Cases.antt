@@ -17,15 +17,19 @@ use Rattle.read.specs.declared.Control.{Control}
 use Rattle.read.specs.declared.Slot.{Slot}
 use Rattle.read.specs.declared.State.{State}
 use Rattle.read.specs.declared.Reply.{Reply}
-use Rattle.read.specs.Machine.{slotCount, logRoom}
+use Rattle.read.specs.Machine.{standing, slotCount, logRoom, underway}
 use Rattle.read.specs.Calls.{Lent, lent}
 use Rattle.read.specs.Handles.{smallest}
 use Rattle.write.specs.declared.Moved.{Moved}
 use Rattle.write.specs.declared.Opening.{Opening}
 use Rattle.write.specs.Steps.{at, keeping, draining, polled, polling, beginning, published, lastPolling, lastSnapping, snapping, ended, withLog, refused}
 use Rattle.write.specs.Begins.{writerSigns, columnOf, logged, madeAtOnce, appendFirst, appended, appendOn, opened, openOn}
-use Rattle.write.specs.Runs.{goOn}
+use Rattle.write.specs.Runs.{afterStep, ranOut, runWhile}
 use Rattle.write.proofs.Verdicts.{judging, Refusal, refused-mild, admitted-unopposed, append-idle, open-idle}
+
+-- another job; the phase stays, with its lock
+abbrev pub withJob : Job → Control → Control
+withJob j c = standing (c .phase) j c
 
 -- ---- a test, by its value
 
@@ -124,7 +128,7 @@ pub going-on :
     (number (o .made .answer) ≡ 0 → P (rest (o .made .state) (o .left) (o .right) (o .log))) →
     ((a : ℕ) → number (o .made .answer) ≡ suc a →
     P (lent (record { answer = o .made .answer; value = n; state = o .made .state }) (o .left) (o .right) (o .log))) →
-    P (goOn rest n o)
+    P (afterStep rest n o)
 going-on P rest n o f g = go (number (o .made .answer)) f g
   where
     go : (x : ℕ) → (x ≡ 0 → P (rest (o .made .state) (o .left) (o .right) (o .log))) →
@@ -136,3 +140,24 @@ going-on P rest n o f g = go (number (o .made .answer)) f g
         ])
     go zero f g = f refl
     go (suc a) f g = g a refl
+
+-- a run, by what its steps keep: where none is under way, after each that is made, and at one that is not
+module _ (step : State → List ℕ → List ℕ → List ℕ → Lent Reply) (I : State → List ℕ → List ℕ → List ℕ → Type 0) (P : Lent Reply → Type 0)
+    (out : (n : ℕ) (st : State) (l r g : List ℕ) → I st l r g → P (ranOut n st l r g))
+    (made : (st : State) (l r g : List ℕ) → I st l r g → underway (st .control .phase) ≡ true →
+    (let o = step st l r g in number (o .made .answer) ≡ 0 → I (o .made .state) (o .left) (o .right) (o .log)))
+    (stopped : (n : ℕ) (st : State) (l r g : List ℕ) → I st l r g → underway (st .control .phase) ≡ true →
+    (let o = step st l r g in
+    (a : ℕ) → number (o .made .answer) ≡ suc a →
+    P (lent (record { answer = o .made .answer; value = n; state = o .made .state }) (o .left) (o .right) (o .log))))
+  where
+    pub run-keeps : (k n : ℕ) (st : State) (l r g : List ℕ) → I st l r g → P (runWhile step k n st l r g)
+    unfolding runWhile
+    run-keeps zero n st l r g h = out n st l r g h
+    run-keeps (suc k) n st l r g h =
+        by P (underway (st .control .phase))
+        (λ u.
+        let o = step st l r g in
+        going-on P (runWhile step k (n + 1)) n o
+        (λ z. run-keeps k (n + 1) (o .made .state) (o .left) (o .right) (o .log) (made st l r g h u z)) (λ a z. stopped n st l r g h u a z))
+        (λ u. out n st l r g h)

@@ -2,9 +2,9 @@
 use Rattle.read.proofs.Computes.{rules as readRules}
 use Rattle.write.specs.Steps.{stepAt}
 use Rattle.write.specs.Begins.{appendOn, opened, openOn}
-use Rattle.write.specs.Runs.{stepOn, steps, runOn}
+use Rattle.write.specs.Runs.{stepOn, runWhile, runOn}
 use Rattle.write.specs.Machine.{callOn, callRule}
 
 unfoldable pub rules : Type 0
-unfolding readRules stepAt appendOn opened openOn stepOn steps runOn callOn callRule
+unfolding readRules stepAt appendOn opened openOn stepOn runWhile runOn callOn callRule
 rules = Unit {0}

@@ -16,9 +16,9 @@ use Rattle.read.specs.Machine.{slotCount, logRoom, locks, nulls, inRange, same,
 use Rattle.write.specs.declared.Moved.{Moved}
 use Rattle.write.specs.declared.Opening.{Opening}
 use Rattle.write.specs.declared.Opening.the-variants as opening
-use Rattle.write.specs.Steps.{at, withJob, withLog, copied, swappedOver, nulled, nextJob, keeping, draining, polled, polling, beginning, published, lastPolling, lastSnapping, snapping, ended, holds, stopped, pollMove, lastPollMove, stepAt}
+use Rattle.write.specs.Steps.{at, withLog, copied, swappedOver, nulled, nextJob, keeping, draining, polled, polling, beginning, published, lastPolling, lastSnapping, snapping, ended, holds, stopped, pollMove, lastPollMove, stepAt}
 use Rattle.write.specs.Begins.{appendOn, opened, openOn, taking}
-use Rattle.write.proofs.Cases.{by, below, append-cases, open-cases, keeping-cases, draining-cases, polled-cases, polling-cases, beginning-cases, lastPolling-cases, lastSnapping-cases, published-cases, snapping-cases}
+use Rattle.write.proofs.Cases.{withJob, by, below, append-cases, open-cases, keeping-cases, draining-cases, polled-cases, polling-cases, beginning-cases, lastPolling-cases, lastSnapping-cases, published-cases, snapping-cases}
 
 -- there is a slot: all that is asked of their number
 pub some-slot : 0 < slotCount

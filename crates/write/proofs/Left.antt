@@ -19,10 +19,10 @@ use Rattle.read.specs.Machine.{slotCount, logRoom, underway, isGone}
 use Rattle.read.specs.Handles.{bit}
 use Rattle.read.specs.Calls.{Lent, lent}
 use Rattle.write.specs.declared.Moved.{Moved}
-use Rattle.write.specs.Steps.{at, withJob, withLog, copied, swappedOver, nextJob, keeping, draining, polled, polling, beginning, published, lastPolling, lastSnapping, snapping, holds, moved, refused, stopped, pollMove, lastPollMove, stepAt}
+use Rattle.write.specs.Steps.{at, withLog, copied, swappedOver, nextJob, keeping, draining, polled, polling, beginning, published, lastPolling, lastSnapping, snapping, holds, moved, refused, stopped, pollMove, lastPollMove, stepAt}
 use Rattle.write.specs.Scans.{polls, stopAnswer, haltAnswer}
-use Rattle.write.specs.Runs.{lastLeft, afterLeft, snapLeft, swapLeft, drainLeft, polledLeft, beginLeft, leftAt, left}
-use Rattle.write.proofs.Cases.{below, keeping-cases, draining-cases, polled-cases, polling-cases, beginning-cases, lastPolling-cases, lastSnapping-cases, snapping-cases}
+use Rattle.write.proofs.Count.{lastLeft, afterLeft, snapLeft, swapLeft, drainLeft, polledLeft, beginLeft, leftAt, left}
+use Rattle.write.proofs.Cases.{withJob, below, keeping-cases, draining-cases, polled-cases, polling-cases, beginning-cases, lastPolling-cases, lastSnapping-cases, snapping-cases}
 use Rattle.write.proofs.Control.{Whole, Fits, fits}
 
 -- ---- the count, where the writer goes on
@@ -423,6 +423,14 @@ idle-left c u = left-none c (c .phase) u
 
 pub underway-left : (c : Control) → Whole c → underway (c .phase) ≡ true → 0 < left c
 underway-left c w u = left-some c (c .phase) (fits w) u
+
+-- where a step is left, a call is under way
+pub left-underway : {k : ℕ} (c : Control) → left c ≡ suc k → underway (c .phase) ≡ true
+left-underway c e = by-cases (underway (c .phase)) (idle-left c)
+  where
+    by-cases : (b : Bool) → (b ≡ false → left c ≡ 0) → b ≡ true
+    by-cases true f = refl
+    by-cases false f = absurd (let z = f refl in omega arith)
 
 pub left-idle : (c : Control) → Whole c → left c ≡ 0 → underway (c .phase) ≡ false
 left-idle c w z = by-cases (underway (c .phase)) (underway-left c w)

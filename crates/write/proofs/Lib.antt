@@ -3,6 +3,7 @@ pub mod Verdicts
 pub mod Cases
 pub mod Control
 pub mod Rows
+pub mod Count
 pub mod Left
 pub mod RunLaws
 pub mod Words

@@ -12,19 +12,19 @@ use Rattle.table.specs.declared.Answer.the-variants as answer
 use Rattle.read.specs.declared.Slot.{Slot}
 use Rattle.read.specs.declared.Phase.{Phase}
 use Rattle.read.specs.declared.Phase.the-variants.{Begin, Poll, Null}
-use Rattle.read.specs.declared.Job.the-variants.{Publish, Try, TakeFirst}
+use Rattle.read.specs.declared.Job.the-variants.{Try, TakeFirst}
 use Rattle.read.specs.declared.Control.{Control}
 use Rattle.read.specs.declared.Verdict.{Verdict}
 use Rattle.read.specs.declared.Verdict.the-variants.{Admitted, Refused}
 use Rattle.read.specs.declared.Signs.{Signs}
-use Rattle.read.specs.Machine.{logRoom, isGone, isDue, anyOpen}
+use Rattle.read.specs.Machine.{standing, logRoom, isGone, isDue, anyOpen}
 use Rattle.read.specs.Admission.{entry}
 use Rattle.read.specs.Handles.{smallest, withDue}
 use Rattle.read.specs.Calls.{Lent, lent}
 use Rattle.write.specs.declared.Moved.{Moved}
 use Rattle.write.specs.declared.Opening.{Opening}
 use Rattle.write.specs.declared.Opening.the-variants as opening
-use Rattle.write.specs.Steps.{at, withJob, withLog, beginning, ofLeft, ofRight, operated, refused}
+use Rattle.write.specs.Steps.{withLog, ofLeft, ofRight, operated, refused}
 use Rattle.write.specs.Begins.{writerSigns, stepSigns, logged, appendLater, appended, appendOn, columnOf, begun, value, taking, opened, openOn}
 use Rattle.write.proofs.Next.{polling-here}
 
@@ -154,12 +154,6 @@ module _ (kind key amount : ℕ) (c : Control) (s : Slot) (e : ℕ) (l r g : Lis
 
 -- ---- publish, try, flush, take
 
-at-by : {p q : Phase} {c d : Control} → p ≡ q → c ≡ d → at p c ≡ at q d
-at-by x y = λ i. at (x i) (y i)
-
-pub begun-of : (c : Control) {p : Phase} {w r : Control} → p ≡ beginning c → w ≡ withJob Publish c → r ≡ at p w → r ≡ begun c
-begun-of c x y h = h ∙ at-by x y
-
 pub taking-by : (c : Control) {b w : Bool} {p : Phase} → b ≡ (c .first || ltb 0 (c .length)) → b ≡ w →
     p ≡ elim w [ true ↦ Begin | false ↦ Null ] → p ≡ taking c
 taking-by c x y h = h ∙ ap (λ (b : Bool). elim b as (λ _. Phase) [ true ↦ Begin | false ↦ Null ]) (sym y ∙ x)
@@ -177,9 +171,9 @@ module _ (o : Opening) (c : Control) (s : Slot) (e : ℕ) where
   opened-publish q x h = opened-by q (valued x h)
 
   pub opened-try :
-      {m : Moved} {w d : Control} → o ≡ opening.Try → w ≡ withJob Try c → d ≡ at (Poll 0) w → m ≡ value 0 d s e → m ≡ opened o c s e
+      {m : Moved} {d : Control} → o ≡ opening.Try → d ≡ standing (Poll 0) Try c → m ≡ value 0 d s e → m ≡ opened o c s e
   unfolding opened
-  opened-try q x y h = opened-by q (valued (y ∙ at-by (polling-here c 0 (omega arith)) x) h)
+  opened-try q x h = opened-by q (valued (x ∙ ap (λ (p : Phase). standing p Try c) (polling-here c 0 (omega arith))) h)
 
   pub opened-flush :
       {m : Moved} {d : Control} → o ≡ opening.Flush → c .swapped < c .length → d ≡ begun c → m ≡ value 1 d s e → m ≡ opened o c s e
@@ -191,10 +185,10 @@ module _ (o : Opening) (c : Control) (s : Slot) (e : ℕ) where
   opened-idle q k h = opened-by q (rw (opened, le-ltb (c .swapped) (c .length) k) h)
 
   pub opened-take :
-      {m : Moved} {p : Phase} {w d : Control} →
-      o ≡ opening.Take → p ≡ taking c → w ≡ withJob TakeFirst c → d ≡ at p w → m ≡ value 0 d s e → m ≡ opened o c s e
+      {m : Moved} {p : Phase} {d : Control} →
+      o ≡ opening.Take → p ≡ taking c → d ≡ standing p TakeFirst c → m ≡ value 0 d s e → m ≡ opened o c s e
   unfolding opened
-  opened-take q x y z h = opened-by q (valued (z ∙ at-by x y) h)
+  opened-take q x y h = opened-by q (valued (y ∙ ap (λ (p : Phase). standing p TakeFirst c) x) h)
 
   abbrev OpenJudged : Verdict → Moved
   OpenJudged v = elim v [ Admitted ↦ opened o c s e | Refused a ↦ refused a c s e ]

@@ -1,12 +1,10 @@
 -- A machine that the rules reach from the fresh one is never broken: no call on it answers 1 or 2.
-use Prim.Native.Nat.{ℕ, zero, suc, _+_, _-_, _≤_}
+use Prim.Native.Nat.{ℕ, _-_}
 use mathlib.Core.Path.{_≡_, refl, sym, subst, _∙_}
-use mathlib.Core.List.{List, [], _∷_}
+use mathlib.Core.List.{List}
 use native.Mathlib.Omega.{arith}
 use lib.ListN.{length, replicate, length-set, length-replicate}
-use Rattle.table.specs.Answers.{number}
 use Rattle.table.specs.Copy.{words}
-use Rattle.table.specs.declared.Answer.{Answer}
 use Rattle.table.proofs.CopyFit.{fit-empty}
 use Rattle.read.specs.declared.Slot.{Slot}
 use Rattle.read.specs.declared.Control.{Control}
@@ -24,13 +22,12 @@ use Rattle.write.specs.declared.Call.{Call}
 use Rattle.write.specs.declared.Call.the-variants.{Create, On, Append, Open, Step, Run}
 use Rattle.write.specs.Steps.{stepAt, place}
 use Rattle.write.specs.Begins.{stepSigns, appendOn, openOn, opened}
-use Rattle.write.specs.Runs.{snapAt, lift, stepOn, left, steps, runOn}
+use Rattle.write.specs.Runs.{snapAt, lift, stepOn, enough, runWhile, runOn}
 use Rattle.write.specs.Machine.{going, callOn, callRule}
 use Rattle.write.proofs.Verdicts.{judging}
-use Rattle.write.proofs.Cases.{below, open-cases, going-on}
+use Rattle.write.proofs.Cases.{below, open-cases, run-keeps}
 use Rattle.write.proofs.Control.{some-slot, whole-step, whole-append, whole-open}
 use Rattle.write.proofs.Judged.{Good, good-judged}
-use Rattle.write.proofs.Refusals.{KindCall, made, kept, over, stillUpTo, kind-callOn}
 use Rattle.write.proofs.Words.{Words, words-step, words-append}
 
 -- a beginning leaves the log as it is
@@ -123,13 +120,10 @@ module _ (st : State) (l r g : List ℕ) (h : Sound st l r g) where
         words = words-step c s e l r g (h .good .words) (h .good .whole);
       })
 
-pub sound-steps : (k n : ℕ) (st : State) (l r g : List ℕ) → Sound st l r g → SoundOut (steps k n st l r g)
-unfolding steps
-sound-steps zero n st l r g h = h
-sound-steps (suc k) n st l r g h =
-    let o = stepOn st l r g in
-    let x : SoundOut o = sound-step st l r g h in
-    going-on SoundOut (steps k (n + 1)) n o (λ z. sound-steps k (n + 1) (o .made .state) (o .left) (o .right) (o .log) x) (λ a z. x)
+pub sound-run : (k n : ℕ) (st : State) (l r g : List ℕ) → Sound st l r g → SoundOut (runWhile stepOn k n st l r g)
+sound-run =
+    run-keeps stepOn Sound SoundOut (λ n st l r g h. h) (λ st l r g h u z. sound-step st l r g h)
+    (λ n st l r g h u a z. sound-step st l r g h)
 
 sound-going :
     (column : ℕ) (rule : State → List ℕ → List ℕ → List ℕ → Lent Reply) (st : State) (l r g : List ℕ) → Sound st l r g →
@@ -144,7 +138,7 @@ sound-callOn (On i k) st l r g h = sound-handle st l r g h i k
 sound-callOn (Append kind key amount) st l r g h = sound-append st l r g h kind key amount
 sound-callOn (Open o) st l r g h = sound-open st l r g h o
 sound-callOn Step st l r g h = sound-going 12 stepOn st l r g h (sound-step st l r g h)
-sound-callOn Run st l r g h = sound-going 13 runOn st l r g h (sound-steps (left (st .control)) 0 st l r g h)
+sound-callOn Run st l r g h = sound-going 13 runOn st l r g h (sound-run enough 0 st l r g h)
 
 -- on a sound machine nothing is refused by 1 or 2
 pub call-made : (k : Call) (st : State) (l r g : List ℕ) → Sound st l r g → callRule k st l r g ≡ callOn k st l r g
@@ -153,58 +147,3 @@ call-made k st l r g h = rw (sound-judged h, callRule)
 
 pub sound-call : (k : Call) (st : State) (l r g : List ℕ) → Sound st l r g → SoundOut (callRule k st l r g)
 sound-call k st l r g h = subst SoundOut (sym (call-made k st l r g h)) (sound-callOn k st l r g h)
-
--- ---- over any list of calls
-
--- a machine with the words that it is lent
-abbrev pub called : Call → Lent State → Lent State
-called k w =
-    let o = callRule k (w .made) (w .left) (w .right) (w .log) in
-    lent (o .made .state) (o .left) (o .right) (o .log)
-
-abbrev pub played : List Call → Lent State → Lent State
-played [] w = w
-played (k ∷ ks) w = played ks (called k w)
-
-abbrev pub started : Lent State
-started = lent fresh (replicate words 0) (replicate words 0) (replicate logWords 0)
-
-abbrev SoundAt : Lent State → Type 0
-SoundAt w = Sound (w .made) (w .left) (w .right) (w .log)
-
-sound-played : (ks : List Call) (w : Lent State) → SoundAt w → SoundAt (played ks w)
-sound-played [] w h = h
-sound-played (k ∷ ks) w h = sound-played ks (called k w) (sound-call k (w .made) (w .left) (w .right) (w .log) h)
-
-pub sound-reached : (ks : List Call) → (let w = played ks started in Sound (w .made) (w .left) (w .right) (w .log))
-sound-reached ks = sound-played ks started sound-fresh
-
--- neither 1 nor 2
-abbrev pub Unbroken : Answer → Type 0
-Unbroken a = (number a ≡ 1 → ⊥) × (number a ≡ 2 → ⊥)
-
-unbroken-kind :
-    {b : ℕ} {st : State} {l r g : List ℕ} {o : Lent Reply} → 12 ≤ b → KindCall b st l r g o → Unbroken (o .made .answer)
-unbroken-kind h (made z) = omega arith
-unbroken-kind h (kept a x) = omega arith
-unbroken-kind h (over x) = omega arith
-
-still-large : (k : Call) → 12 ≤ stillUpTo k
-still-large Create = omega arith
-still-large (On i h) = omega arith
-still-large (Append kind key amount) = omega arith
-still-large (Open o) = omega arith
-still-large Step = omega arith
-still-large Run = omega arith
-
-pub sound-unbroken : (k : Call) (st : State) (l r g : List ℕ) → Sound st l r g → Unbroken (callRule k st l r g .made .answer)
-sound-unbroken k st l r g h =
-    subst (λ (o : Lent Reply). Unbroken (o .made .answer)) (sym (call-made k st l r g h))
-    (unbroken-kind (still-large k) (kind-callOn st l r g k (h .good .whole)))
-
-pub never-broken :
-    (ks : List Call) (k : Call) →
-    (let w = played ks started in Unbroken (callRule k (w .made) (w .left) (w .right) (w .log) .made .answer))
-never-broken ks k =
-    let w = played ks started in
-    sound-unbroken k (w .made) (w .left) (w .right) (w .log) (sound-reached ks)

@@ -15,7 +15,7 @@ use Rattle.read.specs.declared.Control.{Control}
 use Rattle.read.specs.Machine.{slotTotal, slotCount, underway}
 use Rattle.read.specs.Handles.{bit}
 use Rattle.write.specs.declared.Moved.{Moved}
-use Rattle.write.specs.Steps.{keeping, draining, polled, polling, beginning, published, nextJob, lastPolling, lastSnapping, at, withJob, withLog, ended, snapping, drained, holds, moved, refused, stopped, pollMove, lastPollMove}
+use Rattle.write.specs.Steps.{keeping, draining, polled, polling, beginning, published, lastPolling, lastSnapping, at, withLog, ended, snapping, drained, holds, moved, refused, stopped, pollMove, lastPollMove}
 
 -- ---- the operations of the log
 
@@ -57,11 +57,6 @@ published-more j n q h = rw (q, published, lt-ltb 0 n h)
 
 pub published-last : (j : Job) (n : ℕ) → j ≡ TakeFirst → n ≤ 0 → Null ≡ published j n
 published-last j n q h = rw (q, published, le-ltb 0 n h)
-
-pub ended-of :
-    (c : Control) {p : Phase} {j : Job} {w r : Control} →
-    p ≡ published (c .job) (c .length) → j ≡ nextJob (c .job) → w ≡ withJob j c → r ≡ at p w → r ≡ ended c
-ended-of c e f g h = h ∙ rw (g, e, f)
 
 pub snapping-here : (c : Control) (k : ℕ) {r : Control} → k < slotTotal → r ≡ at (Snap k) c → r ≡ snapping c k
 unfolding slotCount

@@ -1,16 +1,15 @@
 -- A call that is refused changes nothing and has value 0; and no call below the judgement answers 1 or 2.
-use Prim.Native.Nat.{ℕ, zero, suc, _+_, _≤_, _<_}
+use Prim.Native.Nat.{ℕ, suc, _≤_, _<_}
 use mathlib.Core.Path.{_≡_, refl, sym, ap, subst}
 use mathlib.Core.Bool.{Bool, true}
 use mathlib.Core.List.{List}
-use mathlib.Core.Logic.{_⊎_, inl, inr}
+use mathlib.Core.Logic.{_⊎_, inl, inr, _≢_}
 use native.Mathlib.Omega.{arith}
 use lib.Dec.{eqb}
 use lib.Seq.{set-getD}
 use Rattle.table.specs.Answers.{number}
 use Rattle.table.specs.declared.Answer.{Answer}
 use Rattle.table.specs.declared.Answer.the-variants as answer
-use Rattle.table.proofs.Split.{split}
 use Rattle.read.specs.declared.Due.{Due}
 use Rattle.read.specs.declared.Due.the-variants.{Nothing, Load, Restore}
 use Rattle.read.specs.declared.Slot.{Slot}
@@ -31,13 +30,11 @@ use Rattle.write.specs.declared.Call.{Call}
 use Rattle.write.specs.declared.Call.the-variants.{Create, On, Append, Open, Step, Run}
 use Rattle.write.specs.Steps.{refused, stepAt, place}
 use Rattle.write.specs.Begins.{stepSigns, appendOn, openOn, opened}
-use Rattle.write.specs.Runs.{snapAt, lift, stepOn, left, steps, runOn}
+use Rattle.write.specs.Runs.{snapAt, lift, stepOn, enough, runOn}
 use Rattle.write.specs.Machine.{going, callOn, callRule}
 use Rattle.write.proofs.Verdicts.{judging, refused-mild, step-underway}
-use Rattle.write.proofs.Cases.{by, below, append-cases, open-cases, going-on}
-use Rattle.write.proofs.Control.{Whole, whole-step}
-use Rattle.write.proofs.Left.{Stepped, done, held, declined, step-stepped, step-lowers, idle-left}
-use Rattle.write.proofs.Judged.{judged-good}
+use Rattle.write.proofs.Cases.{by, below, append-cases, open-cases, run-keeps}
+use Rattle.write.proofs.Left.{Stepped, done, held, declined, step-stepped}
 
 -- ---- the kinds of a reply
 
@@ -202,21 +199,15 @@ stepped-ran a (done q) z = absurd (omega (arith, ap number q))
 stepped-ran a held z = omega arith
 stepped-ran a declined z = omega arith
 
-steps-ran : (k n : ℕ) (st : State) (l r g : List ℕ) → Whole (st .control) → left (st .control) ≡ k → Ran (steps k n st l r g)
-unfolding steps stepOn
-steps-ran zero n st l r g w q = inl refl
-steps-ran (suc k) n st l r g w q =
+run-ran : (st : State) (l r g : List ℕ) → Ran (runOn st l r g)
+unfolding runOn stepOn
+run-ran st l r g =
+    run-keeps stepOn (λ st l r g. Unit) Ran (λ n st l r g h. inl refl) (λ st l r g h u z. tt)
+    (λ n st l r g h u a z.
     let c = st .control in
     let i = place (c .phase) in
-    let s = slotAt st i in
-    let e = snapAt st i in
-    let m = stepAt (c .phase) c s e l r g in
-    let u : underway (c .phase) ≡ true = split (underway (c .phase)) (λ x. x) (λ x. absurd (omega (arith, idle-left c x))) in
-    going-on Ran (steps k (n + 1)) n (stepOn st l r g)
-    (λ z.
-    steps-ran k (n + 1) (stepOn st l r g .made .state) (m .left) (m .right) (m .log) (whole-step c w s e l r g)
-    (omega (arith, step-lowers c s e w l r g z)))
-    (λ a z. inr (stepped-ran a (step-stepped c s e l r g (c .phase) u) z))
+    inr (stepped-ran a (step-stepped c (slotAt st i) (snapAt st i) l r g (c .phase) u) z))
+    enough 0 st l r g tt
 
 ran-kind : {st : State} {l r g : List ℕ} {o : Lent Reply} → Ran o → KindCall 12 st l r g o
 ran-kind (inl z) = made z
@@ -234,17 +225,17 @@ stillUpTo Step = 13
 stillUpTo Run = 12
 
 module _ (st : State) (l r g : List ℕ) where
-  pub kind-callOn : (k : Call) → Whole (st .control) → KindCall (stillUpTo k) st l r g (callOn k st l r g)
+  pub kind-callOn : (k : Call) → KindCall (stillUpTo k) st l r g (callOn k st l r g)
   unfolding callOn runOn
-  kind-callOn Create w = kind-create st l r g (firstFree (st .slots))
-  kind-callOn (On i h) w = kind-on st l r g i h
-  kind-callOn (Append kind key amount) w =
+  kind-callOn Create = kind-create st l r g (firstFree (st .slots))
+  kind-callOn (On i h) = kind-on st l r g i h
+  kind-callOn (Append kind key amount) =
       kind-lift st l r g 0 (appendOn kind key amount (st .control) (slotAt st 0) (snapAt st 0) l r g)
       (kind-append (st .control) (slotAt st 0) (snapAt st 0) l r g kind key amount)
-  kind-callOn (Open o) w =
+  kind-callOn (Open o) =
       kind-begin st l r g (openOn o (st .control) (slotAt st 0) (snapAt st 0)) (kind-open (st .control) (slotAt st 0) (snapAt st 0) o)
-  kind-callOn Step w = kind-going st l r g 13 12 stepOn (λ v. kind-step st l r g (step-underway (st .control) v))
-  kind-callOn Run w = kind-going st l r g 12 13 runOn (λ v. ran-kind (steps-ran (left (st .control)) 0 st l r g w refl))
+  kind-callOn Step = kind-going st l r g 13 12 stepOn (λ v. kind-step st l r g (step-underway (st .control) v))
+  kind-callOn Run = kind-going st l r g 12 13 runOn (λ v. ran-kind (run-ran st l r g))
 
   -- 1 to 12, and 13 but of run, change nothing, and have value 0
   kept-same :
@@ -263,24 +254,25 @@ module _ (st : State) (l r g : List ℕ) where
       judging
       (λ (o : Lent Reply).
       1 ≤ number (o .made .answer) → number (o .made .answer) ≤ stillUpTo k → o ≡ lent (refusal (o .made .answer) st) l r g)
-      (judged (st .control) l r g) (λ v. kept-same (kind-callOn k (judged-good (st .control) l r g v .whole))) (λ a v x y. refl)
+      (judged (st .control) l r g) (λ v. kept-same (kind-callOn k)) (λ a v x y. refl)
 
--- ---- numbers
+-- below the judgement neither 1 nor 2 is answered
+unbroken-kind :
+    {b : ℕ} {st : State} {l r g : List ℕ} {o : Lent Reply} → 2 ≤ b → KindCall b st l r g o →
+    (number (o .made .answer) ≢ 1) × (number (o .made .answer) ≢ 2)
+unbroken-kind h (made z) = (λ q. omega arith, λ q. omega arith)
+unbroken-kind h (kept a x) = (λ q. omega arith, λ q. omega arith)
+unbroken-kind h (over x) = (λ q. omega arith, λ q. omega arith)
 
-pub number-bound : (a : Answer) → number a ≤ 15
-number-bound answer.Done = omega arith
-number-bound answer.Length = omega arith
-number-bound answer.Broken = omega arith
-number-bound answer.Gone = omega arith
-number-bound answer.NoSlot = omega arith
-number-bound answer.Operation = omega arith
-number-bound answer.NotNow = omega arith
-number-bound answer.Locked = omega arith
-number-bound answer.GuardsOpen = omega arith
-number-bound answer.NoGuard = omega arith
-number-bound answer.FourGuards = omega arith
-number-bound answer.LogFull = omega arith
-number-bound answer.SlotsFull = omega arith
-number-bound answer.Held = omega arith
-number-bound answer.Declined = omega arith
-number-bound answer.None = omega arith
+pub still-large : (k : Call) → 12 ≤ stillUpTo k
+still-large Create = omega arith
+still-large (On i h) = omega arith
+still-large (Append kind key amount) = omega arith
+still-large (Open o) = omega arith
+still-large Step = omega arith
+still-large Run = omega arith
+
+pub unbroken :
+    (k : Call) (st : State) (l r g : List ℕ) →
+    (let a = number (callOn k st l r g .made .answer) in (a ≢ 1) × (a ≢ 2))
+unbroken k st l r g = unbroken-kind (let h = still-large k in omega arith) (kind-callOn st l r g k)

@@ -2,7 +2,7 @@
 -- that is made, a poll of the slot scan that passes, the scan's end, a poll that stops the run, and the end of the call.
 use Prim.Native.Nat.{ℕ, zero, suc, _+_, _-_, _≤_, _<_}
 use mathlib.Core.Path.{_≡_, refl, sym, ap, subst, _∙_}
-use mathlib.Core.Bool.{true, false, true≢false}
+use mathlib.Core.Bool.{Bool, true, false, true≢false}
 use mathlib.Core.List.{List, [], _∷_}
 use native.Mathlib.Omega.{arith}
 use lib.ListN.{length, getD, set}
@@ -20,13 +20,16 @@ use Rattle.read.specs.declared.Control.{Control}
 use Rattle.read.specs.declared.State.{State}
 use Rattle.read.specs.declared.Reply.{Reply}
 use Rattle.read.specs.Machine.{slotCount, noSlot, underway}
-use Rattle.read.specs.Calls.{Lent, lent}
+use Rattle.read.specs.Calls.{Lent, lent, slotAt}
 use Rattle.write.specs.declared.Moved.{Moved}
 use Rattle.write.specs.Steps.{at, polled, polling, lastPolling, holds, moved, refused, stopped, stepAt, place}
 use Rattle.write.specs.Scans.{polls, scanningAt, stopAnswer, stopControl, haltAnswer, halted}
-use Rattle.write.specs.Runs.{lift, stepOn, left, goOn, steps, runOn}
+use Rattle.write.specs.Runs.{snapAt, lift, stepOn, afterStep, ranOut, enough, runWhile, runOn}
+use Rattle.write.proofs.Count.{left, steps}
+use Rattle.write.proofs.Cases.{going-on}
 use Rattle.write.proofs.Control.{Placed, Whole, whole-step}
-use Rattle.write.proofs.Left.{step-answer, made-unless-polls, poll-passed, poll-stopped, lastPoll-passed, lastPoll-stopped, step-lowers, idle-left, underway-left, left-small}
+use Rattle.write.proofs.Left.{step-answer, made-unless-polls, poll-passed, poll-stopped, lastPoll-passed, lastPoll-stopped, step-lowers, idle-left, underway-left, left-idle, left-underway, left-small}
+use Rattle.read.proofs.Cases.{withLock}
 
 abbrev pub stateOf : Control → List Slot → List ℕ → State
 stateOf c ss es = record { control = c; slots = ss; snapshots = es }
@@ -45,7 +48,7 @@ module _ (k n : ℕ) (st : State) (l r g : List ℕ) where
       steps (suc k) n st l r g
       ≡ (let o = stepOn st l r g in steps k (n + 1) (o .made .state) (o .left) (o .right) (o .log))
   unfolding steps
-  steps-made z = rw (z, goOn)
+  steps-made z = rw (z, afterStep)
 
   steps-stopped :
       (a : ℕ) → number (stepOn st l r g .made .answer) ≡ suc a →
@@ -53,7 +56,61 @@ module _ (k n : ℕ) (st : State) (l r g : List ℕ) where
       ≡ (let o = stepOn st l r g in
       lent (record { answer = o .made .answer; value = n; state = o .made .state }) (o .left) (o .right) (o .log))
   unfolding steps
-  steps-stopped a z = rw (z, goOn)
+  steps-stopped a z = rw (z, afterStep)
+
+-- ---- a run is as many as are left
+
+module _ (n : ℕ) (f g : State → List ℕ → List ℕ → List ℕ → Lent Reply) (o : Lent Reply) where
+  -- what comes of a step, where the rest is the same
+  after-same :
+      (number (o .made .answer) ≡ 0 → f (o .made .state) (o .left) (o .right) (o .log) ≡ g (o .made .state) (o .left) (o .right) (o .log)) →
+      afterStep f n o ≡ afterStep g n o
+  after-same h =
+      going-on (λ x. x ≡ afterStep g n o) f n o (λ z. h z ∙ sym (rw (z, afterStep))) (λ a z. sym (rw (z, afterStep)))
+
+abbrev Counted : ℕ → ℕ → Type 0
+Counted k n =
+    (st : State) (l r g : List ℕ) → Whole (st .control) → left (st .control) ≤ k →
+    runWhile stepOn k n st l r g ≡ steps (left (st .control)) n st l r g
+
+one-counted : (k n : ℕ) → Counted k (n + 1) → Counted (suc k) n
+unfolding runWhile steps stepOn
+one-counted k n rest st l r g w b = go (left (st .control)) refl
+  where
+    by-way : Bool → Lent Reply
+    by-way u = elim u [ true ↦ afterStep (runWhile stepOn k (n + 1)) n (stepOn st l r g) | false ↦ ranOut n st l r g ]
+
+    go : (m : ℕ) → left (st .control) ≡ m → by-way (underway (st .control .phase)) ≡ steps (left (st .control)) n st l r g
+    go zero e = ap by-way (left-idle (st .control) w e) ∙ ap (λ (m : ℕ). steps m n st l r g) (sym e)
+    go (suc m) e =
+        let c = st .control in
+        let i = place (c .phase) in
+        let o = stepOn st l r g in
+        ap by-way (left-underway c e)
+        ∙ after-same n (runWhile stepOn k (n + 1)) (steps m (n + 1)) o
+        (λ z.
+        let f = step-lowers c (slotAt st i) (snapAt st i) w l r g z in
+        let q : left (o .made .state .control) ≡ m = omega arith in
+        rest (o .made .state) (o .left) (o .right) (o .log) (whole-step c w (slotAt st i) (snapAt st i) l r g) (omega arith)
+        ∙ ap (λ (x : ℕ). steps x (n + 1) (o .made .state) (o .left) (o .right) (o .log)) q)
+        ∙ ap (λ (x : ℕ). steps x n st l r g) (sym e)
+
+pub run-counted : (k n : ℕ) → Counted k n
+unfolding runWhile steps
+run-counted zero n st l r g w b =
+    let e : left (st .control) ≡ 0 = omega arith in ap (λ (m : ℕ). steps m n st l r g) (sym e)
+run-counted (suc k) n st l r g w b = one-counted k n (run-counted k (n + 1)) st l r g w b
+
+-- more than are left makes no difference: the bound of a run does not bind it
+pub run-unbounded :
+    (k n : ℕ) (st : State) (l r g : List ℕ) → Whole (st .control) → left (st .control) ≤ k →
+    runWhile stepOn k n st l r g ≡ runWhile stepOn enough n st l r g
+run-unbounded k n st l r g w b =
+    run-counted k n st l r g w b ∙ sym (run-counted enough n st l r g w (omega (arith, left-small (st .control) w)))
+
+pub run-steps : (st : State) (l r g : List ℕ) → Whole (st .control) → runOn st l r g ≡ steps (left (st .control)) 0 st l r g
+unfolding runOn
+run-steps st l r g w = run-counted enough 0 st l r g w (omega (arith, left-small (st .control) w))
 
 -- ---- a run from here
 
@@ -124,8 +181,8 @@ pub record Goes (o : Lent Reply) (k n : ℕ) (c : Control) (ss : List Slot) (es 
 pub goes-start :
     (st : State) (l r g : List ℕ) → Whole (st .control) →
     Goes (runOn st l r g) (left (st .control)) 0 (st .control) (st .slots) (st .snapshots) l r g
-unfolding runOn
-goes-start st l r g w = record { whole = w; most = left-small (st .control) w; count = omega arith; same = refl }
+goes-start st l r g w =
+    record { whole = w; most = left-small (st .control) w; count = omega arith; same = sym (run-steps st l r g w) }
 
 module _ {o : Lent Reply} {k n : ℕ} {c : Control} {ss : List Slot} {es l r g : List ℕ} (h : Goes o k n c ss es l r g) where
   -- the count does not run over, and while a call is under way there is one more to make
@@ -267,19 +324,7 @@ scanning-underway c i =
 
 -- a whole control part has the lock that its phase asks
 at-own : (c : Control) → Whole c → at (c .phase) c ≡ c
-at-own c w =
-    λ i.
-    record {
-      right = c .right;
-      null = c .null;
-      lock = sym (w .locked) i;
-      first = c .first;
-      second = c .second;
-      phase = c .phase;
-      job = c .job;
-      length = c .length;
-      swapped = c .swapped;
-    }
+at-own c w = λ i. withLock (sym (w .locked) i) c
 
 -- what a stop gives, slot and snapshot being put back
 stop-reply :

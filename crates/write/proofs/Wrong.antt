@@ -1,6 +1,6 @@
 -- Wrong programs, as definitions on the rules' values, and for each a proof that the contract's promise (`Promises`) is false of it: one
 -- call, on values that the source's types have, where what the program does wrong is read off.
-use Prim.Native.Nat.{ℕ, zero, suc, _+_, _-_, _%_, _^_}
+use Prim.Native.Nat.{ℕ, _+_, _-_, _%_, _^_}
 use mathlib.Core.Path.{refl}
 use mathlib.Core.Bool.{Bool, true, false, not, _&&_, _||_}
 use mathlib.Core.List.{List, [], _∷_, _++_}
@@ -19,7 +19,7 @@ use Rattle.read.specs.declared.Control.{Control}
 use Rattle.read.specs.declared.Verdict.the-variants.{Admitted, Refused}
 use Rattle.read.specs.declared.State.{State}
 use Rattle.read.specs.declared.Reply.{Reply}
-use Rattle.read.specs.Machine.{slotCount, logRoom, logWords, noGuards, noSlot, newSlot, underway, locks, nulls, judged, fresh}
+use Rattle.read.specs.Machine.{standing, holding, freshControl, openOn, withReading, slotCount, logRoom, logWords, noGuards, noSlot, newSlot, underway, nulls, judged, fresh}
 use Rattle.read.specs.Admission.{row}
 use Rattle.read.specs.Handles.{smallest, freed, copyOf, bit}
 use Rattle.read.specs.Calls.{Lent, lent, slotAt, refusal}
@@ -27,36 +27,27 @@ use Rattle.write.specs.declared.Moved.{Moved}
 use Rattle.write.specs.declared.Opening.{Opening}
 use Rattle.write.specs.declared.Opening.the-variants as opening
 use Rattle.write.specs.declared.Call.the-variants as call
-use Rattle.write.specs.Steps.{at, withJob, withLog, swappedOver, draining, polling, beginning, lastPolling, holds, moved, refused, stopped, ofLeft, ofRight, operated, logApplied, over, unlogged, stepAt, place}
+use Rattle.write.specs.Steps.{at, withLog, swappedOver, draining, polling, beginning, lastPolling, holds, moved, refused, stopped, ofLeft, ofRight, operated, logApplied, over, unlogged, stepAt, place}
 use Rattle.write.specs.Begins.{writerSigns, madeAtOnce, appendFirst, appended, appendOn, columnOf, begun, value, opened}
-use Rattle.write.specs.Runs.{snapAt, putBack, lift, stepOn, left, goOn, steps}
+use Rattle.write.specs.Runs.{snapAt, putBack, lift, stepOn, enough, runWhile}
 use Rattle.write.specs.Machine.{going, callRule}
+use Rattle.write.proofs.Cases.{withJob}
 use Rattle.table.proofs.Computes.{apart}
 use Rattle.table.proofs.Contracts.{Words, slice}
 use Rattle.write.proofs.Computes.{rules}
 use Rattle.write.proofs.Promises.{Part, Whole, Beginning, HoldsPromise, PlacePromise, OpenOnPromise, AdvancePromise, AppendOnPromise}
 use Rattle.write.proofs.Promises.{AppendPromise, StepPromise, RunPromise, PublishPromise, TryPromise, FlushPromise, TakePromise}
+use Rattle.read.proofs.Cases.{withLock}
 
 -- ---- what the witnesses are made of
 
 -- a control part that fits its phase, the pointer on the left copy
-abbrev standing : Phase → Job → Bool → Bool → ℕ → ℕ → Control
-standing p j first second n s =
-    record {
-      right = false;
-      null = nulls p;
-      lock = locks p;
-      first = first;
-      second = second;
-      phase = p;
-      job = j;
-      length = n;
-      swapped = s;
-    }
+abbrev fitting : Phase → Job → Bool → Bool → ℕ → ℕ → Control
+fitting p j first second n s = holding false (nulls p) first second n s (standing p j freshControl)
 
 -- a reader inside, with an odd epoch
 abbrev inside : Slot
-inside = record { used = true; epoch = 1; guards = set noGuards 0 (record { opened = true; right = false }); due = Nothing }
+inside = withReading 1 (set noGuards 0 (openOn false)) Nothing newSlot
 
 -- the writer's own slot first, then this one and free ones
 abbrev with1 : Control → Slot → ℕ → State
@@ -177,7 +168,7 @@ pollPasses = but 2 (λ c s e l r g. lent (moved (at (polling c (place (c .phase)
 
 pollPasses-wrong : AdvancePromise pollPasses → ⊥
 unfolding rules
-pollPasses-wrong h = apart (λ o. number (o .made .answer)) refl (h (standing (Poll 1) Publish false false 0 0) inside 1 blank blank blankLog refl)
+pollPasses-wrong h = apart (λ o. number (o .made .answer)) refl (h (fitting (Poll 1) Publish false false 0 0) inside 1 blank blank blankLog refl)
 
 -- a poll that is held, and moves on
 abbrev heldMovesOn : Part
@@ -189,7 +180,7 @@ heldMovesOn =
 
 heldMovesOn-wrong : AdvancePromise heldMovesOn → ⊥
 unfolding rules
-heldMovesOn-wrong h = apart (λ o. place (o .made .control .phase)) refl (h (standing (Poll 1) Publish false false 0 0) inside 1 blank blank blankLog refl)
+heldMovesOn-wrong h = apart (λ o. place (o .made .control .phase)) refl (h (fitting (Poll 1) Publish false false 0 0) inside 1 blank blank blankLog refl)
 
 -- a copying step after every publish: the copies are never said to be synchronised
 abbrev copiesAlways : Part
@@ -201,7 +192,7 @@ copiesAlways =
 
 copiesAlways-wrong : AdvancePromise copiesAlways → ⊥
 unfolding rules
-copiesAlways-wrong h = apart (λ o. bit (o .made .control .second)) refl (h (standing Copy Publish false true 0 0) newSlot 0 blank blank blankLog refl)
+copiesAlways-wrong h = apart (λ o. bit (o .made .control .second)) refl (h (fitting Copy Publish false true 0 0) newSlot 0 blank blank blankLog refl)
 
 -- a drain that leaves the swap index where it is
 abbrev keepsIndex : Part
@@ -215,7 +206,7 @@ keepsIndex =
 
 keepsIndex-wrong : AdvancePromise keepsIndex → ⊥
 unfolding rules
-keepsIndex-wrong h = apart (λ o. o .made .control .swapped) refl (h (standing Drain Publish false false 1 1) newSlot 0 blank blank log7 refl)
+keepsIndex-wrong h = apart (λ o. o .made .control .swapped) refl (h (fitting Drain Publish false false 1 1) newSlot 0 blank blank log7 refl)
 
 -- a drain that leaves the operation in the log
 abbrev drainsNothing : Part
@@ -227,7 +218,7 @@ drainsNothing =
 
 drainsNothing-wrong : AdvancePromise drainsNothing → ⊥
 unfolding rules
-drainsNothing-wrong h = apart (λ o. word0 (o .log)) refl (h (standing Drain Publish false false 1 1) newSlot 0 blank blank log7 refl)
+drainsNothing-wrong h = apart (λ o. word0 (o .log)) refl (h (fitting Drain Publish false false 1 1) newSlot 0 blank blank log7 refl)
 
 -- a snapshot of a free slot
 abbrev snapsFree : Part
@@ -235,7 +226,7 @@ snapsFree = but 7 (λ c s e l r g. let o = stepAt (c .phase) c s e l r g in lent
 
 snapsFree-wrong : AdvancePromise snapsFree → ⊥
 unfolding rules
-snapsFree-wrong h = apart (λ o. o .made .snapshot) refl (h (standing (Snap 1) Publish false false 0 0) noSlot 1 blank blank blankLog refl)
+snapsFree-wrong h = apart (λ o. o .made .snapshot) refl (h (fitting (Snap 1) Publish false false 0 0) noSlot 1 blank blank blankLog refl)
 
 -- a take that takes no snapshots, and polls by the last publish's
 abbrev oldSnapshots : Part
@@ -243,7 +234,7 @@ oldSnapshots = but 9 (λ c s e l r g. lent (moved (at (lastPolling 0) c) s e) l 
 
 oldSnapshots-wrong : AdvancePromise oldSnapshots → ⊥
 unfolding rules
-oldSnapshots-wrong h = apart movedTo refl (h (standing Lock TakeFirst false false 0 0) newSlot 0 blank blank blankLog refl)
+oldSnapshots-wrong h = apart movedTo refl (h (fitting Lock TakeFirst false false 0 0) newSlot 0 blank blank blankLog refl)
 
 -- a take that leaves the other copy as it is
 abbrev leavesCopy : Part
@@ -251,7 +242,7 @@ leavesCopy = but 12 (λ c s e l r g. lent (stepAt Finish c s e l r g .made) l r 
 
 leavesCopy-wrong : AdvancePromise leavesCopy → ⊥
 unfolding rules
-leavesCopy-wrong h = apart (λ o. word0 (o .right)) refl (h (standing Finish TakeFirst false false 0 0) newSlot 0 seven seven blankLog refl)
+leavesCopy-wrong h = apart (λ o. word0 (o .right)) refl (h (fitting Finish TakeFirst false false 0 0) newSlot 0 seven seven blankLog refl)
 
 -- a machine that answers a step, and changes nothing
 abbrev standsStill : Part
@@ -261,7 +252,7 @@ standsStill c s e l r g =
 
 standsStill-wrong : AdvancePromise standsStill → ⊥
 unfolding rules
-standsStill-wrong h = apart movedTo refl (h (standing Begin TakeFirst true true 0 0) newSlot 0 blank blank blankLog refl)
+standsStill-wrong h = apart movedTo refl (h (fitting Begin TakeFirst true true 0 0) newSlot 0 blank blank blankLog refl)
 
 -- ---- append, on slot 0
 
@@ -316,11 +307,11 @@ openBy f d t o c s e =
 
 -- a guard of slot 0 does not refuse
 abbrev underGuards : Opening → Control → Slot → ℕ → Moved
-underGuards o c s = openBy (opened o) c (record { used = s .used; epoch = s .epoch; guards = noGuards; due = s .due }) o c s
+underGuards o c s = openBy (opened o) c (withReading (s .epoch) noGuards (s .due) s) o c s
 
 underGuards-wrong : OpenOnPromise underGuards → ⊥
 unfolding rules
-underGuards-wrong h = apart (λ o. number (o .answer)) refl (h opening.Publish (standing Idle Publish false false 0 0) inside 0 refl)
+underGuards-wrong h = apart (λ o. number (o .answer)) refl (h opening.Publish (fitting Idle Publish false false 0 0) inside 0 refl)
 
 -- one call is begun over another
 abbrev overAnother : Opening → Control → Slot → ℕ → Moved
@@ -328,7 +319,7 @@ overAnother o c s = openBy (opened o) (elim (underway (c .phase)) [ true ↦ at 
 
 overAnother-wrong : OpenOnPromise overAnother → ⊥
 unfolding rules
-overAnother-wrong h = apart (λ o. number (o .answer)) refl (h opening.Publish (standing Swap Publish false false 0 0) newSlot 0 refl)
+overAnother-wrong h = apart (λ o. number (o .answer)) refl (h opening.Publish (fitting Swap Publish false false 0 0) newSlot 0 refl)
 
 -- ---- the calls on the whole machine
 
@@ -343,7 +334,7 @@ opens o f st l r g =
 
 -- after the first publish
 abbrev later : State
-later = with1 (standing Idle Publish false true 0 0) noSlot 0
+later = with1 (fitting Idle Publish false true 0 0) noSlot 0
 
 -- append: the epoch stays
 append-epochStays-wrong : AppendPromise (appends epochStays) → ⊥
@@ -364,7 +355,7 @@ oneMore kind key amount c s e l r g =
 
 append-oneMore-wrong : AppendPromise (appends oneMore) → ⊥
 unfolding rules
-append-oneMore-wrong h = apart answered refl (h 1 7 3 (with1 (standing Idle Publish false false 256 0) noSlot 0) blank blank fullLog refl)
+append-oneMore-wrong h = apart answered refl (h 1 7 3 (with1 (fitting Idle Publish false false 256 0) noSlot 0) blank blank fullLog refl)
 
 -- publish: the swap at its beginning
 abbrev swapsAtOnce : Beginning
@@ -418,7 +409,7 @@ flushesSeen = opens opening.Flush (λ c s e. elim (ltb 0 (c .length)) [ true ↦
 
 flushesSeen-wrong : FlushPromise flushesSeen → ⊥
 unfolding rules
-flushesSeen-wrong h = apart valued refl (h (with1 (standing Idle Publish false true 1 1) noSlot 0) blank blank log7 refl)
+flushesSeen-wrong h = apart valued refl (h (with1 (fitting Idle Publish false true 1 1) noSlot 0) blank blank log7 refl)
 
 -- take: the lock at its beginning
 abbrev locksAtOnce : Beginning
@@ -428,17 +419,7 @@ locksAtOnce =
     let m = opened opening.Take c s e in
     let d = m .control in
     value 0
-    (record {
-      right = d .right;
-      null = d .null;
-      lock = true;
-      first = d .first;
-      second = d .second;
-      phase = d .phase;
-      job = d .job;
-      length = d .length;
-      swapped = d .swapped;
-    })
+    (withLock true d)
     s e)
 
 locksAtOnce-wrong : TakePromise locksAtOnce → ⊥
@@ -460,7 +441,7 @@ stepBy f st l r g = let i = place (st .control .phase) in lift i st (f (st .cont
 
 -- a reader inside on slot 1, whose snapshot was seen
 abbrev heldAt1 : State
-heldAt1 = with1 (standing (Poll 1) Publish false false 0 0) inside 1
+heldAt1 = with1 (fitting (Poll 1) Publish false false 0 0) inside 1
 
 step-heldMovesOn-wrong : StepPromise (judging (going 12 (stepBy heldMovesOn))) → ⊥
 unfolding rules
@@ -472,48 +453,39 @@ step-pollPasses-wrong h = apart answered refl (h heldAt1 blank blank blankLog re
 
 step-snapsFree-wrong : StepPromise (judging (going 12 (stepBy snapsFree))) → ⊥
 unfolding rules
-step-snapsFree-wrong h = apart snapped1 refl (h (with1 (standing (Snap 1) Publish false false 0 0) noSlot 1) blank blank blankLog refl)
+step-snapsFree-wrong h = apart snapped1 refl (h (with1 (fitting (Snap 1) Publish false false 0 0) noSlot 1) blank blank blankLog refl)
 
 -- a step before which neither the state nor the lent words are judged
 step-unjudged-wrong : StepPromise (going 12 stepOn) → ⊥
 unfolding rules
-step-unjudged-wrong h = apart answered refl (h (with1 (standing Swap Publish false false 0 0) noSlot 0) blankLog blank blankLog refl)
+step-unjudged-wrong h = apart answered refl (h (with1 (fitting Swap Publish false false 0 0) noSlot 0) blankLog blank blankLog refl)
 
--- a run that says another value where it is held, of the steps that were left and those that were made
-abbrev heldSays : (ℕ → ℕ → ℕ) → Whole
+-- a run that says another value where it is held, of the steps that were made
+abbrev heldSays : (ℕ → ℕ) → Whole
 heldSays f st l r g =
     let o = callRule call.Run st l r g in
     let m = o .made in
     elim (eqb (number (m .answer)) 13) [
-      | true ↦ lent (record { answer = m .answer; value = f (left (st .control)) (m .value); state = m .state }) (o .left) (o .right) (o .log)
+      | true ↦ lent (record { answer = m .answer; value = f (m .value); state = m .state }) (o .left) (o .right) (o .log)
       | false ↦ o
     ]
 
 -- the step that is held is counted
-run-countsHeld-wrong : RunPromise (heldSays (λ k n. n + 1)) → ⊥
+run-countsHeld-wrong : RunPromise (heldSays (λ n. n + 1)) → ⊥
 unfolding rules
 run-countsHeld-wrong h = apart valued refl (h heldAt1 blank blank blankLog refl)
 
--- all that were left are said to be made
-run-inventsValue-wrong : RunPromise (heldSays (λ k n. k)) → ⊥
+-- a number that has nothing to do with them
+run-inventsValue-wrong : RunPromise (heldSays (λ n. 99)) → ⊥
 unfolding rules
 run-inventsValue-wrong h = apart valued refl (h heldAt1 blank blank blankLog refl)
 
 -- a run that makes one step
-run-oneStep-wrong : RunPromise (judging (going 13 (steps 1 0))) → ⊥
+run-oneStep-wrong : RunPromise (judging (going 13 (runWhile stepOn 1 0))) → ⊥
 unfolding rules
-run-oneStep-wrong h = apart phased refl (h (with1 (standing (Snap 14) Publish false false 0 0) noSlot 0) blank blank blankLog refl)
-
--- a run of at most k such steps, n being made before: until the call ends, or one is held or declined
-abbrev stepsBy : Part → ℕ → ℕ → Whole
-stepsBy f zero n st l r g = lent (record { answer = answer.Done; value = n; state = st }) l r g
-stepsBy f (suc k) n st l r g =
-    elim (underway (st .control .phase)) [
-      | true ↦ goOn (stepsBy f k (n + 1)) n (stepBy f st l r g)
-      | false ↦ lent (record { answer = answer.Done; value = n; state = st }) l r g
-    ]
+run-oneStep-wrong h = apart phased refl (h (with1 (fitting (Snap 14) Publish false false 0 0) noSlot 0) blank blank blankLog refl)
 
 -- a run whose take polls by the last publish's snapshots: a reader that entered since is passed
-run-oldSnapshots-wrong : RunPromise (judging (going 13 (λ st l r g. stepsBy oldSnapshots (left (st .control)) 0 st l r g))) → ⊥
+run-oldSnapshots-wrong : RunPromise (judging (going 13 (runWhile (stepBy oldSnapshots) enough 0))) → ⊥
 unfolding rules
-run-oldSnapshots-wrong h = apart answered refl (h (with1 (standing Lock TakeFirst false false 0 0) inside 0) blank blank blankLog refl)
+run-oldSnapshots-wrong h = apart answered refl (h (with1 (fitting Lock TakeFirst false false 0 0) inside 0) blank blank blankLog refl)

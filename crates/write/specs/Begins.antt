@@ -13,14 +13,14 @@ use Rattle.read.specs.declared.Job.the-variants.{Publish, Try, TakeFirst}
 use Rattle.read.specs.declared.Control.{Control}
 use Rattle.read.specs.declared.Verdict.the-variants.{Admitted, Refused}
 use Rattle.read.specs.declared.Signs.{Signs}
-use Rattle.read.specs.Machine.{logRoom, isGone, isDue, anyOpen}
+use Rattle.read.specs.Machine.{standing, logRoom, isGone, isDue, anyOpen}
 use Rattle.read.specs.Admission.{entry}
 use Rattle.read.specs.Handles.{smallest, withDue}
 use Rattle.read.specs.Calls.{Lent, lent}
 use Rattle.write.specs.declared.Moved.{Moved}
 use Rattle.write.specs.declared.Opening.{Opening}
 use Rattle.write.specs.declared.Opening.the-variants as opening
-use Rattle.write.specs.Steps.{at, withJob, withLog, beginning, polling, ofLeft, ofRight, operated, refused}
+use Rattle.write.specs.Steps.{withLog, beginning, polling, ofLeft, ofRight, operated, refused}
 
 -- ---- what speaks against a writer's call
 
@@ -96,7 +96,7 @@ columnOf opening.Flush = 10
 columnOf opening.Take = 11
 
 abbrev pub begun : Control → Control
-begun c = at (beginning c) (withJob Publish c)
+begun c = standing (beginning c) Publish c
 
 abbrev pub value : ℕ → Control → Slot → ℕ → Moved
 value v c s e = record { answer = answer.Done; value = v; control = c; slot = s; snapshot = e }
@@ -107,9 +107,9 @@ taking c = elim (c .first || ltb 0 (c .length)) [ true ↦ Begin | false ↦ Nul
 
 unfoldable pub opened : Opening → Control → Slot → ℕ → Moved
 opened opening.Publish c s e = value 0 (begun c) s e
-opened opening.Try c s e = value 0 (at (polling c 0) (withJob Try c)) s e
+opened opening.Try c s e = value 0 (standing (polling c 0) Try c) s e
 opened opening.Flush c s e = elim (ltb (c .swapped) (c .length)) [ true ↦ value 1 (begun c) s e | false ↦ value 0 c s e ]
-opened opening.Take c s e = value 0 (at (taking c) (withJob TakeFirst c)) s e
+opened opening.Take c s e = value 0 (standing (taking c) TakeFirst c) s e
 
 unfoldable pub openOn : Opening → Control → Slot → ℕ → Moved
 openOn o c s e =

@@ -13,7 +13,7 @@ use Rattle.read.specs.declared.Phase.the-variants.{Idle, Begin, Poll, Copy, Dra
 use Rattle.read.specs.declared.Job.{Job}
 use Rattle.read.specs.declared.Job.the-variants.{Publish, Try, TakeFirst, TakeSecond}
 use Rattle.read.specs.declared.Control.{Control}
-use Rattle.read.specs.Machine.{slotCount, logRoom, underway, locks}
+use Rattle.read.specs.Machine.{slotCount, logRoom, underway, standing, holding}
 use Rattle.read.specs.Handles.{freed, copyOf, bit}
 use Rattle.read.specs.Calls.{Lent, lent}
 use Rattle.write.specs.declared.Moved.{Moved}
@@ -72,93 +72,24 @@ lastSnapping k = elim (ltb k slotCount) [ true ↦ LastSnap k | false ↦ lastPo
 
 -- another phase, with the lock that fits it
 abbrev pub at : Phase → Control → Control
-at p c =
-    record {
-      right = c .right;
-      null = c .null;
-      lock = locks p;
-      first = c .first;
-      second = c .second;
-      phase = p;
-      job = c .job;
-      length = c .length;
-      swapped = c .swapped;
-    }
-
-abbrev pub withJob : Job → Control → Control
-withJob j c =
-    record {
-      right = c .right;
-      null = c .null;
-      lock = c .lock;
-      first = c .first;
-      second = c .second;
-      phase = c .phase;
-      job = j;
-      length = c .length;
-      swapped = c .swapped;
-    }
+at p c = standing p (c .job) c
 
 -- the log holds n operations, of which s stand in the copy that is read
 abbrev pub withLog : ℕ → ℕ → Control → Control
-withLog n s c =
-    record {
-      right = c .right;
-      null = c .null;
-      lock = c .lock;
-      first = c .first;
-      second = c .second;
-      phase = c .phase;
-      job = c .job;
-      length = n;
-      swapped = s;
-    }
+withLog n s c = holding (c .right) (c .null) (c .first) (c .second) n s c
 
 abbrev pub copied : Control → Control
-copied c =
-    record {
-      right = c .right;
-      null = c .null;
-      lock = c .lock;
-      first = c .first;
-      second = false;
-      phase = c .phase;
-      job = c .job;
-      length = c .length;
-      swapped = c .swapped;
-    }
+copied c = holding (c .right) (c .null) (c .first) false (c .length) (c .swapped) c
 
 abbrev pub swappedOver : Control → Control
-swappedOver c =
-    record {
-      right = not (c .right);
-      null = c .null;
-      lock = c .lock;
-      first = false;
-      second = c .second;
-      phase = c .phase;
-      job = c .job;
-      length = c .length;
-      swapped = c .length;
-    }
+swappedOver c = holding (not (c .right)) (c .null) false (c .second) (c .length) (c .length) c
 
 abbrev pub nulled : Control → Control
-nulled c =
-    record {
-      right = c .right;
-      null = true;
-      lock = c .lock;
-      first = c .first;
-      second = c .second;
-      phase = c .phase;
-      job = c .job;
-      length = c .length;
-      swapped = c .swapped;
-    }
+nulled c = holding (c .right) true (c .first) (c .second) (c .length) (c .swapped) c
 
 -- a publish ends
 abbrev pub ended : Control → Control
-ended c = at (published (c .job) (c .length)) (withJob (nextJob (c .job)) c)
+ended c = standing (published (c .job) (c .length)) (nextJob (c .job)) c
 
 abbrev pub snapping : Control → ℕ → Control
 snapping c k = elim (ltb k slotCount) [ true ↦ at (Snap k) c | false ↦ ended c ]

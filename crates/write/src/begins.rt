@@ -20,10 +20,10 @@ ghost use mathlib.Core.Bool.{true, not, _&&_, _||_};
 ghost use Prim.Native.Nat.{_+_, _%_, _^_};
 ghost use lib.Dec.{ltb, leb};
 ghost use Rattle.table.specs.Copy.{lawful};
-ghost use Rattle.read.specs.Machine.{isGone, logRoom};
+ghost use Rattle.read.specs.Machine.{standing, isGone, logRoom};
 ghost use Rattle.read.specs.Handles.{withDue};
 ghost use Rattle.read.specs.Calls.{lent};
-ghost use Rattle.write.specs.Steps.{at, withJob, polling, beginning};
+ghost use Rattle.write.specs.Steps.{polling, beginning};
 ghost use Rattle.write.specs.Begins.{writerSigns, stepSigns, appended as appendedRule, appendOn, columnOf, begun as begunRule, value as valueRule, taking as takingRule, opened as openedRule, openOn};
 
 // ---- what speaks against a writer's call, by its column in the table of admissions
@@ -190,7 +190,7 @@ fn column_of(o: Opening) -> usize
 fn begun(c: Control) -> Control
     ensures { λ r. ⌜ r ≡ begunRule c ⌝ }
 {
-    phases::at(phases::beginning(c), phases::with_job(Job::Publish, c))
+    phases::standing(phases::beginning(c), Job::Publish, c)
 }
 
 // Where a take begins: no publish where the first is made and the log is empty.
@@ -208,24 +208,14 @@ fn opened(o: Opening, c: Control, s: Slot, e: u64) -> Moved
 {
     match o {
         Opening::Publish => value(0, begun(c), s, e),
-        Opening::Try => value(
-            0,
-            phases::at(Phase::Poll(0), phases::with_job(Job::Try, c)),
-            s,
-            e,
-        ),
+        Opening::Try => value(0, phases::standing(Phase::Poll(0), Job::Try, c), s, e),
         Opening::Flush => {
             if c.swapped < c.length {
                 return value(1, begun(c), s, e);
             }
             value(0, c, s, e)
         }
-        Opening::Take => value(
-            0,
-            phases::at(taking(c), phases::with_job(Job::TakeFirst, c)),
-            s,
-            e,
-        ),
+        Opening::Take => value(0, phases::standing(taking(c), Job::TakeFirst, c), s, e),
     }
 }
 

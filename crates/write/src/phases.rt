@@ -6,9 +6,9 @@ use read::SLOTS;
 use read::judge;
 ghost use mathlib.Core.Path.{_≡_};
 ghost use Prim.Native.Nat.{_+_, _-_};
-ghost use Rattle.read.specs.Machine.{underway as underwayRule};
+ghost use Rattle.read.specs.Machine.{standing as standingRule, underway as underwayRule};
 ghost use Rattle.write.specs.Steps.{keeping, draining as drainingRule, polled as polledRule, polling as pollingRule, beginning as beginningRule, published as publishedRule, nextJob, lastPolling, lastSnapping};
-ghost use Rattle.write.specs.Steps.{at as atRule, withJob, withLog, copied as copiedRule, swappedOver, nulled as nulledRule, ended as endedRule, snapping, drained as drainedRule};
+ghost use Rattle.write.specs.Steps.{at as atRule, withLog, copied as copiedRule, swappedOver, nulled as nulledRule, ended as endedRule, snapping, drained as drainedRule};
 
 const LAST: usize = SLOTS - 1;
 
@@ -166,12 +166,11 @@ pub(crate) fn underway(c: Control) -> bool
 
 // ---- the control part
 
-// Another phase, with the lock that fits it.
-pub(crate) fn at(p: Phase, c: Control) -> Control
-    ensures { λ r. ⌜ r ≡ atRule p c ⌝ }
+// Where the writer stands, with the lock that fits it; the rest stays.
+pub(crate) fn standing(p: Phase, job: Job, c: Control) -> Control
+    ensures { λ r. ⌜ r ≡ standingRule p job c ⌝ }
 {
     let lock = judge::locks(p);
-    let job = c.job;
     Control {
         right: c.right,
         null: c.null,
@@ -185,21 +184,12 @@ pub(crate) fn at(p: Phase, c: Control) -> Control
     }
 }
 
-pub(crate) fn with_job(job: Job, c: Control) -> Control
-    ensures { λ r. ⌜ r ≡ withJob job c ⌝ }
+// Another phase.
+pub(crate) fn at(p: Phase, c: Control) -> Control
+    ensures { λ r. ⌜ r ≡ atRule p c ⌝ }
 {
-    let phase = c.phase;
-    Control {
-        right: c.right,
-        null: c.null,
-        lock: c.lock,
-        first: c.first,
-        second: c.second,
-        phase: phase,
-        job: job,
-        length: c.length,
-        swapped: c.swapped,
-    }
+    let job = c.job;
+    standing(p, job, c)
 }
 
 // The log holds `n` operations, of which `s` stand in the copy that is read.
@@ -244,7 +234,7 @@ fn ended(c: Control) -> Control
     ensures { λ r. ⌜ r ≡ endedRule c ⌝ }
 {
     let j = c.job;
-    at(published(j, c.length), with_job(next_job(j), c))
+    standing(published(j, c.length), next_job(j), c)
 }
 
 // Behind the snapshot of slot `k`.

@@ -35,7 +35,7 @@ use Rattle.read.specs.Admission.{handleNumber}
 use Rattle.write.specs.declared.Call.{Call}
 use Rattle.write.specs.declared.Call.the-variants.{Create, On, Append, Open, Step, Run}
 use Rattle.read.specs.declared.Job.the-variants as job
-use Rattle.write.specs.Steps.{at, withJob, polling, withLog}
+use Rattle.write.specs.Steps.{at, polling, withLog}
 use Rattle.write.specs.Begins.{writerSigns, columnOf, logged, madeAtOnce, appendFirst, appendOn, begun, taking, opened, openOn}
 use Rattle.write.specs.Runs.{snapAt, lift}
 use Rattle.write.specs.Machine.{callOn}
@@ -46,6 +46,7 @@ use Rattle.write.specs.World.{World, worldOf, reply, answerOf, valueOf}
 use Rattle.demands.specs.Account.{Reader, Account, withAt, newReader, turned, spoke, unswapped, unpublished, accepts, ofStore, ofReader, missed, withPlan, noted}
 use Rattle.write.specs.Numbers.{isRun}
 use Rattle.demands.specs.Table.{wanted, wantedValue, worth, worthOn}
+use Rattle.demands.proofs.Phases.{withJob}
 use Rattle.demands.proofs.shown.Invariant.{seenOf, Quiet, ViewOf, Inv}
 use Rattle.demands.proofs.shown.Guards.{at-set, none-open, same-at, other-at, new-shut}
 use Rattle.demands.proofs.shown.Slot.{rowAfter, handled-view, new-view, reload}

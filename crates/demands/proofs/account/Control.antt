@@ -18,12 +18,13 @@ use Rattle.read.specs.Machine.{isGone}
 use Rattle.write.specs.declared.Moved.{Moved}
 use Rattle.write.specs.declared.Opening.{Opening}
 use Rattle.write.specs.declared.Opening.the-variants as opening
-use Rattle.write.specs.Steps.{at, withJob, swappedOver, nextJob, keeping, draining, polled, polling, beginning, published, lastPolling, lastSnapping, snapping, holds, pollMove, lastPollMove, stepAt}
+use Rattle.write.specs.Steps.{at, swappedOver, nextJob, keeping, draining, polled, polling, beginning, published, lastPolling, lastSnapping, snapping, holds, pollMove, lastPollMove, stepAt}
 use Rattle.write.specs.Begins.{taking, opened}
 use Rattle.write.proofs.Cases.{by, below, keeping-cases, draining-cases, polled-cases, polling-cases, beginning-cases, lastPolling-cases, lastSnapping-cases, snapping-cases}
 use Rattle.write.proofs.Control.{Whole, Fits, fits}
 use Rattle.demands.specs.Account.{Move, null, Store, unswapped, isOdd, Account, withPlan, makes, advanced, onSwap, asked, begins as openingOf}
 use Rattle.write.specs.Numbers.{isTry}
+use Rattle.demands.proofs.Phases.{withJob}
 use Rattle.demands.proofs.account.Plan.{moveOf, plan, step-plan, not-made}
 use Rattle.demands.proofs.account.Beginnings.{Known, publish-known, try-known, take-known}
 

@@ -6,7 +6,6 @@ use mathlib.Core.Bool.{true, false}
 use native.Mathlib.Omega.{arith}
 use Rattle.table.proofs.Split.{split}
 use Rattle.read.specs.declared.Reply.{Reply}
-use Rattle.read.specs.declared.Control.{Control}
 use Rattle.read.specs.declared.Verdict.{Verdict}
 use Rattle.read.specs.declared.Verdict.the-variants.{Admitted, Refused}
 use Rattle.read.specs.Machine.{underway}
@@ -17,7 +16,9 @@ use Rattle.write.specs.declared.Call.{Call}
 use Rattle.write.specs.declared.Call.the-variants.{Step, Run}
 use Rattle.write.specs.Steps.{place}
 use Rattle.write.specs.Begins.{stepSigns}
-use Rattle.write.specs.Runs.{snapAt, stepOn, left, steps, runOn}
+use Rattle.write.specs.Runs.{snapAt, stepOn}
+use Rattle.write.proofs.Count.{left, steps}
+use Rattle.write.proofs.RunLaws.{run-steps as run-counts}
 use Rattle.write.specs.Machine.{callOn, callRule, going}
 use Rattle.write.proofs.Verdicts.{refused-mild, step-underway}
 use Rattle.write.proofs.Cases.{going-on}
@@ -28,7 +29,7 @@ use Rattle.write.specs.World.{Machine, World, worldOf, reply, next, answerOf, v
 use Rattle.demands.specs.Demands.{afterSteps}
 use Rattle.demands.proofs.Phases.{phaseOf}
 use Rattle.demands.proofs.Sound.{SoundIn, below}
-use Rattle.write.proofs.Left.{idle-left}
+use Rattle.write.proofs.Left.{left-underway}
 use Rattle.demands.proofs.delay.Admitted.{on-step, step-on, run-on}
 use Rattle.demands.proofs.Booleans.{clash}
 
@@ -49,10 +50,6 @@ abbrev pub RunIsSteps : Machine → World → Type 0
 RunIsSteps m w = let r = reply m Run w in Steps m w (valueOf r) (answerOf r) (next m Run w)
 
 -- step and run are refused alike, where no call is under way
--- where a step is left, a call is under way
-pub left-underway : {k : ℕ} (c : Control) → left c ≡ suc k → underway (c .phase) ≡ true
-left-underway c e = split (underway (c .phase)) (λ u. u) (λ u. absurd (let z = idle-left c u in omega arith))
-
 refused-alike :
     (w : World) (v : Verdict) → smallest (stepSigns 12 (w .state .control)) ≡ v → underway (phaseOf w) ≡ false →
     (reply callOn Run w ≡ reply callOn Step w) × (valueOf (reply callOn Run w) ≡ 0) × (answerOf (reply callOn Run w) ≢ 0)
@@ -131,11 +128,10 @@ module _ (m : Machine) (Good : World → Type 0) (whole : (w : World) → Good w
         })
 
     run-steps : (w : World) → Good w → RunIsSteps m w
-    unfolding runOn
     run-steps w h =
         split (underway (phaseOf w))
         (λ u.
-        subst (λ (o : Lent Reply). Steps m w (valueOf o) (answerOf o) (worldOf o)) (sym (same w h Run ∙ run-on w u))
+        subst (λ (o : Lent Reply). Steps m w (valueOf o) (answerOf o) (worldOf o)) (sym (same w h Run ∙ run-on w u ∙ run-counts (w .state) (w .left) (w .right) (w .log) (whole w h)))
         (are-steps w _ u (steps-are (left (w .state .control)) 0 w h refl)))
         (λ u.
         let x = refused-alike w _ refl u in

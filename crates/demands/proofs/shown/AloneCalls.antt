@@ -29,7 +29,7 @@ use Rattle.write.specs.declared.Call.{Call}
 use Rattle.write.specs.declared.Call.the-variants.{Create, On, Append, Open, Step, Run}
 use Rattle.write.specs.Steps.{holds, seen, at, lastSnapping, snapping, swappedOver, stopped, pollMove, lastPollMove, stepAt, place}
 use Rattle.write.specs.Begins.{stepSigns, appendOn, opened, openOn}
-use Rattle.write.specs.Runs.{snapAt, lift, stepOn, left}
+use Rattle.write.specs.Runs.{snapAt, lift, stepOn}
 use Rattle.write.specs.Machine.{callOn, callRule}
 use Rattle.write.proofs.Cases.{by, below, append-cases, open-cases, snapping-cases}
 use Rattle.write.proofs.Verdicts.{judging, admitted-unopposed}

@@ -25,9 +25,9 @@ use Rattle.read.specs.Machine.{logRoom, underway, isGone}
 use Rattle.read.specs.Admission.{column, entry, notNow}
 use Rattle.read.specs.Handles.{handleSigns, withDue}
 use Rattle.read.specs.Calls.{lent, slotAt}
-use Rattle.write.specs.Steps.{polling, at, withJob, withLog, operated}
+use Rattle.write.specs.Steps.{polling, at, withLog, operated}
 use Rattle.write.specs.Begins.{taking, logged, madeAtOnce, appendFirst, begun}
-use Rattle.write.specs.Runs.{snapAt, lift, left}
+use Rattle.write.specs.Runs.{snapAt, lift}
 use Rattle.write.proofs.Verdicts.{Unopposed}
 use Rattle.write.proofs.Control.{some-slot}
 use Rattle.write.specs.World.{World, worldOf}
@@ -39,7 +39,7 @@ use Rattle.demands.proofs.shown.Stages.{Begins, begins-polling, begins-
 use Rattle.demands.proofs.shown.Lifts.{ctl, withControl, slotBack, snapBack, StageIn, snap-back, both-back, slot-keeps, control-keeps, write-keeps}
 use Rattle.demands.proofs.Sound.{SoundIn}
 use Rattle.demands.proofs.shown.Steps.{fit-write}
-use Rattle.demands.proofs.Phases.{underway-stays}
+use Rattle.demands.proofs.Phases.{withJob, underway-stays}
 use Rattle.demands.proofs.Booleans.{clash, or-false}
 
 -- ---- slot 0 is left alone while a call of the writer is under way

@@ -33,7 +33,7 @@ use Rattle.write.specs.declared.Call.{Call}
 use Rattle.write.specs.declared.Call.the-variants.{Create, On, Append, Open, Step, Run}
 use Rattle.write.specs.Steps.{holds, ofLeft, ofRight, operated, logApplied, over, unlogged, snapping, swappedOver, stopped, stepAt}
 use Rattle.write.specs.Begins.{stepSigns, logged, opened, appendOn, openOn}
-use Rattle.write.specs.Runs.{lift, stepOn, left}
+use Rattle.write.specs.Runs.{lift, stepOn}
 use Rattle.write.specs.Machine.{callOn, callRule}
 use Rattle.write.proofs.Cases.{by, below, append-cases, open-cases, snapping-cases}
 use Rattle.write.proofs.Verdicts.{judging}

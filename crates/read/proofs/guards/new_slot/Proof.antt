@@ -2,7 +2,7 @@
 use mathlib.Core.Path.{ap}
 use mathlib.Core.Bool.{true}
 use borrow.Author.Needs.{needs}
-use Rattle.read.specs.declared.Slot.{Slot}
+use Rattle.read.specs.Machine.{withUse}
 use Rattle.read.proofs.guards.new_slot.Statement.{statement}
 use Rattle.read.proofs.guards.new_slot.Tie as tie
 
@@ -10,7 +10,7 @@ no-slot-requires : tie.Need-no-slot-requires
 no-slot-requires c κs = search needs
 
 returns : tie.Need-returns
-returns c = ap (λ (s : Slot). record { used = true; epoch = s .epoch; guards = s .guards; due = s .due }) (c .no-slot .ensures)
+returns c = ap (withUse true) (c .no-slot .ensures)
 
 pub new-slot-spec : {M : Type 1} → statement M
 new-slot-spec = tie.close (tie.spec no-slot-requires returns)

@@ -16,11 +16,8 @@ value-requires c κs = search needs
 enum-told-2 : tie.Need-enum-told-2
 enum-told-2 c = search needs
 
-with-job-requires : tie.Need-with-job-requires
-with-job-requires c κs = search needs
-
-at-requires : tie.Need-at-requires
-at-requires c κs = search needs
+standing-requires : tie.Need-standing-requires
+standing-requires c κs = search needs
 
 value-requires-2 : tie.Need-value-requires-2
 value-requires-2 c κs = search needs
@@ -48,11 +45,8 @@ enum-told-4 c = search needs
 taking-requires : tie.Need-taking-requires
 taking-requires c κs = search needs
 
-with-job-requires-2 : tie.Need-with-job-requires-2
-with-job-requires-2 c κs = search needs
-
-at-requires-2 : tie.Need-at-requires-2
-at-requires-2 c κs = search needs
+standing-requires-2 : tie.Need-standing-requires-2
+standing-requires-2 c κs = search needs
 
 value-requires-5 : tie.Need-value-requires-5
 value-requires-5 c κs = search needs
@@ -64,8 +58,8 @@ returns-2 c =
 
 returns-3 : tie.Need-returns-3
 returns-3 c =
-    let a = c .before .before .before .before .before .args in
-    opened-try (a .o) (a .c) (a .s) (a .e) (c .before .before .before .enum-told2 .given .1) (c .before .before .with-job .ensures) (c .before .at .ensures) (c .value2 .ensures)
+    let a = c .before .before .before .before .args in
+    opened-try (a .o) (a .c) (a .s) (a .e) (c .before .before .enum-told2 .given .1) (c .before .standing .ensures) (c .value2 .ensures)
 
 returns-4 : tie.Need-returns-4
 returns-4 c =
@@ -74,8 +68,8 @@ returns-4 c =
 
 returns-5 : tie.Need-returns-5
 returns-5 c =
-    let a = c .before .before .before .before .before .before .args in
-    opened-take (a .o) (a .c) (a .s) (a .e) (c .before .before .before .before .enum-told4 .given .1) (c .before .before .before .taking .ensures) (c .before .before .with-job2 .ensures) (c .before .at2 .ensures) (c .value5 .ensures)
+    let a = c .before .before .before .before .before .args in
+    opened-take (a .o) (a .c) (a .s) (a .e) (c .before .before .before .enum-told4 .given .1) (c .before .before .taking .ensures) (c .before .standing2 .ensures) (c .value5 .ensures)
 
 pub opened-spec : {M : Type 1} → statement M
 opened-spec =
@@ -85,8 +79,7 @@ opened-spec =
     begun-requires
     value-requires
     enum-told-2
-    with-job-requires
-    at-requires
+    standing-requires
     value-requires-2
     enum-told-3
     begun-requires-2
@@ -95,8 +88,7 @@ opened-spec =
     value-requires-4
     enum-told-4
     taking-requires
-    with-job-requires-2
-    at-requires-2
+    standing-requires-2
     value-requires-5
     returns-2
     returns-3

@@ -6,7 +6,8 @@ use native.Mathlib.Omega.{arith}
 use borrow.Author.Needs.{needs}
 use lib.ListN.{getD, length-map}
 use Rattle.read.specs.Machine.{slotTotal}
-use Rattle.write.specs.Runs.{left as leftOf, runOn}
+use Rattle.write.specs.Runs.{runOn}
+use Rattle.write.proofs.Count.{left as leftOf}
 use Rattle.write.proofs.Turns.{holds-there, Running, Scanned, scan-begins, scan-on, scan-ends, runs-scanned, runs-stepped}
 use Rattle.write.proofs.Control.{control-whole, whole-control}
 use Rattle.write.proofs.RunLaws.{stateOf, goes-start, goes-few, goes-ended}

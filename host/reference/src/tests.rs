@@ -1,6 +1,7 @@
 //! The known ends of the scope, its counts, the order of refusals and the refused files.
 
 use super::*;
+use common::{schedule, steps};
 
 const TOP: u64 = u64::MAX;
 
@@ -30,34 +31,36 @@ fn inside(m: &mut Machine, slot: u8) -> Reply {
     m.go_on(slot)
 }
 
-fn record(call: u8) -> Record {
-    Record { call, slot: 0, guard: 0, kind: 0, key: 0, amount: 0 }
-}
-
 /// P1, from its bytes. Returns the machine's end for P2.
 fn first_case() -> Machine {
     let records = [
-        record(1),
-        Record { kind: 1, key: 7, amount: 3, ..record(8) },
-        record(9),
-        record(14),
-        Record { slot: 1, ..record(3) },
-        Record { slot: 1, ..record(4) },
-        Record { slot: 1, key: 7, ..record(6) },
+        Record::of(call::CREATE),
+        Record::append(ADD, 7, 3),
+        Record::of(call::PUBLISH),
+        Record::of(call::RUN),
+        Record::on(1, call::ENTER),
+        Record::on(1, call::GO_ON),
+        Record { key: 7, ..Record::on(1, call::LOOK_UP) },
     ];
-    let mut out = [0xaa; 70];
-    assert_eq!(play(&schedule(&records), &mut out), (0, 63));
-    let values = [1, 0, 0, 17, 0, 0, 3];
-    for (entry, value) in out.chunks_exact(9).zip(values) {
-        assert_eq!(entry[0], 0);
-        assert_eq!(entry[1..], u64::to_le_bytes(value));
+    const WRITTEN: usize = 7 * ENTRY;
+    let mut out = [0xaa; WRITTEN + 7];
+    assert_eq!(play(&schedule(&records), &mut out), (PLAYED, WRITTEN as u64));
+    let values = [1, 0, 0, steps::FIRST_PUBLISH, 0, 0, 3];
+    for (entry, value) in out.chunks_exact(ENTRY).zip(values) {
+        assert_eq!(Reply::from_bytes(entry), says(DONE, value));
     }
-    assert_eq!(out[63..], [0xaa; 7]);
+    assert_eq!(out[WRITTEN..], [0xaa; 7]);
     let mut m = Machine::fresh();
     for (record, value) in records.iter().zip(values) {
         assert_eq!(m.call(record), says(DONE, value));
     }
     m
+}
+
+#[test]
+fn counts_of_steps() {
+    // As the document has them, with 16 slots.
+    assert_eq!((SLOTS, steps::FIRST_PUBLISH, steps::PUBLISH, steps::TAKE_END), (16, 17, 33, 35));
 }
 
 #[test]
@@ -69,14 +72,16 @@ fn p1_whole_transcript() {
 fn p2_one_publish_passes_a_guard_and_the_next_is_held() {
     let mut m = first_case();
     assert_eq!(m.append(add(9, 1)), says(DONE, 0));
-    assert_eq!(published(&mut m), says(DONE, 35));
+    // The copying, and one operation.
+    assert_eq!(published(&mut m), says(DONE, steps::PUBLISH + 2));
     assert_eq!(m.look_up(1, 0, 9), says(DONE, 0));
     assert_eq!(m.look_up(1, 0, 7), says(DONE, 3));
     assert_eq!(published(&mut m), says(HELD, 1));
     assert_eq!(m.step(), says(HELD, 0));
     assert_eq!(m.run(), says(HELD, 0));
     assert_eq!(m.release(1, 0), says(DONE, 0));
-    assert_eq!(m.run(), says(DONE, 33));
+    // One poll was made before, and the operation is applied to the other copy.
+    assert_eq!(m.run(), says(DONE, steps::PUBLISH - 1 + 1));
     assert_eq!(inside(&mut m, 1), says(DONE, 0));
     assert_eq!(m.look_up(1, 0, 9), says(DONE, 1));
 }
@@ -99,9 +104,10 @@ fn p4_guards_of_one_handle_on_two_copies() {
     m.create();
     m.append(add(7, 3));
     assert_eq!(inside(&mut m, 1), says(DONE, 0));
-    assert_eq!(published(&mut m), says(DONE, 17));
+    assert_eq!(published(&mut m), says(DONE, steps::FIRST_PUBLISH));
     assert_eq!(m.enter(1), says(DONE, 1));
-    assert_eq!(m.slots[1].guards, [Some(LEFT), Some(RIGHT), None, None]);
+    let open: Vec<Side> = m.slots[1].guards.iter().flatten().copied().collect();
+    assert_eq!(open, [LEFT, RIGHT]);
     assert_eq!(m.slots[1].epoch, 1);
     assert_eq!(m.look_up(1, 0, 7), says(DONE, 0));
     assert_eq!(m.look_up(1, 1, 7), says(DONE, 3));
@@ -125,7 +131,8 @@ fn p5_epochs_go_round() {
     assert_eq!(published(&mut m), says(HELD, 1));
     assert_eq!(m.release(1, 0), says(DONE, 0));
     assert_eq!(m.slots[1].epoch, 0);
-    assert_eq!(m.run(), says(DONE, 33));
+    // One poll was made before, and the copying comes on top.
+    assert_eq!(m.run(), says(DONE, steps::PUBLISH - 1 + 1));
 }
 
 #[test]
@@ -133,7 +140,7 @@ fn p6_enter_after_null() {
     let mut m = Machine::fresh();
     m.create();
     m.take();
-    assert_eq!(m.run(), says(DONE, 53));
+    assert_eq!(m.run(), says(DONE, 1 + steps::FIRST_PUBLISH + steps::TAKE_END));
     let epoch = m.slots[1].epoch;
     assert_eq!(m.enter(1), says(DONE, 0));
     assert_eq!(m.drop_handle(1), says(NOT_NOW, 0));
@@ -149,10 +156,10 @@ fn p6_enter_after_null() {
 fn p7_take_on_a_fresh_machine() {
     let mut m = Machine::fresh();
     assert_eq!(m.take(), says(DONE, 0));
-    assert_eq!(m.run(), says(DONE, 53));
+    assert_eq!(m.run(), says(DONE, 1 + steps::FIRST_PUBLISH + steps::TAKE_END));
     assert_eq!(m.phase, Phase::Gone);
-    assert_eq!(m.slots[0].used, false);
-    assert_eq!(m.locked, false);
+    assert!(!m.slots[0].used);
+    assert!(!m.locked);
 }
 
 #[test]
@@ -203,29 +210,29 @@ fn p9_counts_stop_at_the_top() {
 }
 
 #[test]
-fn keys_512_fit_and_the_next_spills() {
+fn all_pairs_fit_and_the_next_spills() {
     let mut m = Machine::fresh();
     m.create();
-    for key in (0..512).rev() {
+    for key in (0..PAIRS as u64).rev() {
         assert_eq!(m.append(add(key * 3, key + 1)), says(DONE, 0));
     }
-    assert_eq!((m.copies[RIGHT].used(), m.copies[RIGHT].spill()), (512, 0));
+    assert_eq!((m.copies[RIGHT].used(), m.copies[RIGHT].spill()), (PAIRS, 0));
     let before = m.copies[RIGHT].clone();
     m.append(add(1, 9));
-    assert_eq!((m.copies[RIGHT].used(), m.copies[RIGHT].spill()), (512, 1));
-    assert_eq!(m.copies[RIGHT].words[2..], before.words[2..]);
+    assert_eq!((m.copies[RIGHT].used(), m.copies[RIGHT].spill()), (PAIRS, 1));
+    assert_eq!(m.copies[RIGHT].words[HEAD_WORDS..], before.words[HEAD_WORDS..]);
     // A present key still grows, a dropped one makes room, and CLEAR takes the spill too.
     m.append(add(3, 1));
     assert_eq!(m.copies[RIGHT].look_up(3), Some(&[3, 3][..]));
     m.append(drop_key(0));
     m.append(add(1, 9));
-    assert_eq!((m.copies[RIGHT].used(), m.copies[RIGHT].spill()), (512, 1));
-    assert_eq!(m.copies[RIGHT].words[2..6], [1, 9, 3, 3]);
+    assert_eq!((m.copies[RIGHT].used(), m.copies[RIGHT].spill()), (PAIRS, 1));
+    assert_eq!(m.copies[RIGHT].words[HEAD_WORDS..place(2)], [1, 9, 3, 3]);
     m.copies[RIGHT].words[1] = TOP;
     m.append(add(2, 1));
     assert_eq!(m.copies[RIGHT].spill(), TOP);
     m.append(WIPE);
-    assert_eq!(m.copies[RIGHT].words, [0; TABLE_WORDS]);
+    assert_eq!(m.copies[RIGHT].words, [0; WORDS]);
 }
 
 #[test]
@@ -239,24 +246,25 @@ fn pairs_move_inside_one_copy() {
     t.apply(drop_key(4));
     t.apply(drop_key(TOP));
     assert_eq!(t.view(), [4, 0, 0, 1, 1, 1, 5, 3, 9, 5]);
-    assert_eq!(t.words[10..], [0; TABLE_WORDS - 10]);
+    assert!(t.words[place(4)..].iter().all(|&word| word == 0));
 }
 
 #[test]
-fn appends_256_after_the_first_publish() {
+fn the_log_fills_after_the_first_publish() {
+    const ROOM: u64 = LOG_ROOM as u64;
     let mut m = Machine::fresh();
     published(&mut m);
-    for key in 0..256 {
+    for key in 0..ROOM {
         assert_eq!(m.append(add(key, 1)), says(DONE, 0));
     }
-    assert_eq!(m.append(add(256, 1)), says(LOG_FULL, 0));
+    assert_eq!(m.append(add(ROOM, 1)), says(LOG_FULL, 0));
     // One publish applies all and drops none: the other copy still wants them.
-    assert_eq!(published(&mut m), says(DONE, 16 + 1 + 256 + 1 + 16));
-    assert_eq!(m.append(add(256, 1)), says(LOG_FULL, 0));
-    assert_eq!(published(&mut m), says(DONE, 16 + 256 + 1 + 16));
+    assert_eq!(published(&mut m), says(DONE, steps::PUBLISH + 1 + ROOM));
+    assert_eq!(m.append(add(ROOM, 1)), says(LOG_FULL, 0));
+    assert_eq!(published(&mut m), says(DONE, steps::PUBLISH + ROOM));
     assert_eq!(m.log_words(), [0; LOG_WORDS]);
-    assert_eq!(m.append(add(256, 1)), says(DONE, 0));
-    assert_eq!(m.log_words()[..4], [1, 256, 1, 0]);
+    assert_eq!(m.append(add(ROOM, 1)), says(DONE, 0));
+    assert_eq!(m.log_words()[..=OPERATION_WORDS], [ADD.into(), ROOM, 1, 0]);
 }
 
 #[test]
@@ -266,7 +274,7 @@ fn take_after_the_first_publish_with_an_empty_log() {
     published(&mut m);
     let kept = m.pointer;
     assert_eq!(m.take(), says(DONE, 0));
-    for _ in 0..34 {
+    for _ in 1..steps::TAKE_END {
         assert_eq!(m.step(), says(DONE, 0));
     }
     // The copy that is dropped never heard of the key.
@@ -280,26 +288,25 @@ fn take_after_the_first_publish_with_an_empty_log() {
     let mut m = Machine::fresh();
     published(&mut m);
     m.take();
-    assert_eq!(m.run(), says(DONE, 35));
+    assert_eq!(m.run(), says(DONE, steps::TAKE_END));
 }
 
 #[test]
 fn counts_of_publishes() {
-    // A publish's beginning is a step too: the first ends at step 18, the others at 34 plus one for the copying
-    // (once) and one for each operation in the log.
+    // The first has its own count; the others have one more for the copying (once) and for each operation in the log.
     let mut m = Machine::fresh();
     m.append(add(1, 1));
-    assert_eq!(1 + published(&mut m).value, 18);
-    assert_eq!(1 + published(&mut m).value, 34 + 1);
-    assert_eq!(1 + published(&mut m).value, 34);
+    assert_eq!(published(&mut m).value, steps::FIRST_PUBLISH);
+    assert_eq!(published(&mut m).value, steps::PUBLISH + 1);
+    assert_eq!(published(&mut m).value, steps::PUBLISH);
     m.append(add(2, 1));
     m.append(add(3, 1));
-    assert_eq!(1 + published(&mut m).value, 34 + 2);
+    assert_eq!(published(&mut m).value, steps::PUBLISH + 2);
     m.append(add(4, 1));
     assert_eq!(m.swap_index, 2);
-    assert_eq!(1 + published(&mut m).value, 34 + 3);
-    assert_eq!(1 + published(&mut m).value, 34 + 1);
-    assert_eq!(1 + published(&mut m).value, 34);
+    assert_eq!(published(&mut m).value, steps::PUBLISH + 3);
+    assert_eq!(published(&mut m).value, steps::PUBLISH + 1);
+    assert_eq!(published(&mut m).value, steps::PUBLISH);
     let table = [4, 0, 1, 1, 2, 1, 3, 1, 4, 1];
     assert_eq!(m.copies[LEFT].view(), table);
     assert_eq!(m.copies[RIGHT].view(), table);
@@ -307,14 +314,15 @@ fn counts_of_publishes() {
 
 #[test]
 fn counts_of_tries() {
+    // A first try polls too.
     let mut m = Machine::fresh();
     assert_eq!(m.try_publish(), says(DONE, 0));
-    assert_eq!(1 + m.run().value, 34);
+    assert_eq!(m.run(), says(DONE, steps::PUBLISH));
     assert_eq!(m.try_publish(), says(DONE, 0));
-    assert_eq!(1 + m.run().value, 34 + 1);
+    assert_eq!(m.run(), says(DONE, steps::PUBLISH + 1));
     m.append(add(2, 1));
     assert_eq!(m.try_publish(), says(DONE, 0));
-    assert_eq!(1 + m.run().value, 34 + 1);
+    assert_eq!(m.run(), says(DONE, steps::PUBLISH + 1));
 }
 
 #[test]
@@ -336,9 +344,9 @@ fn counts_of_takes() {
             let unsynchronised = m.second as u64;
             m.take();
             let held = before + after;
-            let first = if held > 0 { 34 + unsynchronised + held } else { 0 };
-            let second = if after > 0 { 34 + after } else { 0 };
-            assert_eq!(m.run(), says(DONE, first + second + 35), "{before} before, {after} after");
+            let first = if held > 0 { 1 + steps::PUBLISH + unsynchronised + held } else { 0 };
+            let second = if after > 0 { 1 + steps::PUBLISH + after } else { 0 };
+            assert_eq!(m.run(), says(DONE, first + second + steps::TAKE_END), "{before} before, {after} after");
         }
     }
 }
@@ -375,7 +383,7 @@ fn a_declined_try_changes_nothing() {
     assert_eq!(m.run(), says(DECLINED, 1));
     m.release(1, 0);
     assert_eq!(m.try_publish(), says(DONE, 0));
-    assert_eq!(m.run(), says(DONE, 35));
+    assert_eq!(m.run(), says(DONE, steps::PUBLISH + 2));
 }
 
 #[test]
@@ -386,12 +394,12 @@ fn take_waits_for_snapshots_of_its_own() {
     published(&mut m);
     inside(&mut m, 1);
     m.take();
-    assert_eq!(m.run(), says(HELD, 1 + 1 + 16 + 1));
+    assert_eq!(m.run(), says(HELD, 1 + 1 + steps::SLOTS + 1));
     assert_eq!(m.was_dropped(1), says(DONE, 1));
     assert_eq!(m.enter(1), says(NONE, 0));
     assert_eq!(m.look_up(1, 0, 0), says(DONE, 0));
     assert_eq!(m.release(1, 0), says(DONE, 0));
-    assert_eq!(m.run(), says(DONE, 16));
+    assert_eq!(m.run(), says(DONE, steps::SLOTS - 1 + 1));
 }
 
 #[test]
@@ -412,9 +420,11 @@ fn the_lock_within_a_take() {
             break;
         }
     }
-    // Two publishes of 36 and 35 steps, then null, lock and the rest.
-    assert_eq!(free, [0, 36, 71, 72]);
-    assert_eq!(step, 71 + 35);
+    // Two publishes, of which the first copies too, then null, lock and the rest.
+    let first = 1 + steps::PUBLISH + 2;
+    let both = first + 1 + steps::PUBLISH + 1;
+    assert_eq!(free, [0, first, both, both + 1]);
+    assert_eq!(step, both + steps::TAKE_END);
 }
 
 #[test]
@@ -434,13 +444,13 @@ fn create_after_gone_hands_out_slot_0() {
 
 #[test]
 fn the_smallest_refusal_wins() {
-    let bad = Operation { kind: 1, key: 7, amount: 0 };
+    let bad = add(7, 0);
     let mut m = Machine::fresh();
     assert_eq!(m.drop_handle(0), says(NOT_NOW, 0));
-    assert_eq!(m.enter(16), says(NO_SLOT, 0));
+    assert_eq!(m.enter(SLOTS as u8), says(NO_SLOT, 0));
     assert_eq!(m.enter(1), says(NO_SLOT, 0));
     assert_eq!(m.release(0, 0), says(NO_GUARD, 0));
-    assert_eq!(m.look_up(0, 4, 0), says(NO_GUARD, 0));
+    assert_eq!(m.look_up(0, GUARDS as u8, 0), says(NO_GUARD, 0));
     assert_eq!(m.go_on(0), says(NOT_NOW, 0));
     assert_eq!(m.append(bad), says(OPERATION, 0));
     // A step due at slot 0 comes before its open guards; a bad operation before both.
@@ -451,17 +461,17 @@ fn the_smallest_refusal_wins() {
     assert_eq!(m.was_dropped(0), says(DONE, 0));
     assert_eq!(m.release(0, 0), says(NO_GUARD, 0));
     assert_eq!(m.go_on(0), says(DONE, 0));
-    for guard in 1..4 {
+    for guard in 1..GUARDS as u64 {
         assert_eq!(m.enter(0), says(DONE, guard));
     }
     assert_eq!(m.enter(0), says(FOUR_GUARDS, 0));
     for reply in [m.append(add(1, 1)), m.publish(), m.try_publish(), m.flush(), m.take()] {
         assert_eq!(reply, says(GUARDS_OPEN, 0));
     }
-    for guard in [2, 0, 3, 1] {
+    for guard in (0..GUARDS as u8).rev() {
         assert_eq!(m.release(0, guard), says(DONE, 0));
     }
-    for slot in 1..16 {
+    for slot in 1..SLOTS as u64 {
         assert_eq!(m.create(), says(DONE, slot));
     }
     assert_eq!(m.create(), says(SLOTS_FULL, 0));
@@ -487,7 +497,7 @@ fn four_guards_come_before_null() {
     let mut m = Machine::fresh();
     m.create();
     inside(&mut m, 1);
-    for _ in 0..3 {
+    for _ in 1..GUARDS {
         m.enter(1);
     }
     m.take();
@@ -500,7 +510,9 @@ fn four_guards_come_before_null() {
 
 #[test]
 fn refused_files() {
-    let good = schedule(&[record(1), record(9)]);
+    const WRITTEN: usize = 2 * ENTRY;
+    let create = Record::of(call::CREATE);
+    let good = schedule(&[create, Record::of(call::PUBLISH)]);
     let refused = |bytes: &[u8], room: usize| {
         let mut out = vec![0x55; room];
         let (answer, written) = play(bytes, &mut out);
@@ -508,30 +520,23 @@ fn refused_files() {
         assert!(out.iter().all(|&byte| byte == 0x55));
         answer
     };
-    assert_eq!(refused(&[], 18), BAD_MARK);
-    assert_eq!(refused(b"LRT\x01", 18), BAD_MARK);
-    assert_eq!(refused(b"LRS\x01\x00", 18), BAD_MARK);
-    assert_eq!(refused(b"LRT\x02\x00", 18), BAD_VERSION);
-    assert_eq!(refused(b"LRT\x01\x01", 18), BAD_VERSION);
-    assert_eq!(refused(&good[..good.len() - 1], 18), TORN);
-    assert_eq!(refused(&good, 17), SHORT_OUTPUT);
-    for call in [0, 15, 255] {
-        assert_eq!(refused(&schedule(&[record(1), record(call)]), 18), BAD_CALL);
+    assert_eq!(refused(&[], WRITTEN), BAD_MARK);
+    assert_eq!(refused(b"LRT\x01", WRITTEN), BAD_MARK);
+    assert_eq!(refused(b"LRS\x01\x00", WRITTEN), BAD_MARK);
+    assert_eq!(refused(b"LRT\x02\x00", WRITTEN), BAD_VERSION);
+    assert_eq!(refused(b"LRT\x01\x01", WRITTEN), BAD_VERSION);
+    assert_eq!(refused(&good[..good.len() - 1], WRITTEN), TORN);
+    assert_eq!(refused(&good, WRITTEN - 1), SHORT_OUTPUT);
+    for call in [0, call::LAST + 1, 255] {
+        let bad = Record::of(call);
+        assert_eq!(refused(&schedule(&[create, bad]), WRITTEN), BAD_CALL);
         // Torn comes before a bad call, and a bad call before a short output.
-        let bytes = schedule(&[record(call), record(1)]);
-        assert_eq!(refused(&bytes[..bytes.len() - 1], 18), TORN);
+        let bytes = schedule(&[bad, create]);
+        assert_eq!(refused(&bytes[..bytes.len() - 1], WRITTEN), TORN);
         assert_eq!(refused(&bytes, 0), BAD_CALL);
     }
-    assert_eq!(play(&schedule(&[]), &mut []), (0, 0));
-    let mut out = [0x55; 20];
-    assert_eq!(play(&good, &mut out), (0, 18));
-    assert_eq!(out[18..], [0x55, 0x55]);
-}
-
-#[test]
-fn records_go_to_bytes_and_back() {
-    let record = Record { call: 6, slot: 5, guard: 4, kind: 3, key: 0x0807060504030201, amount: TOP - 1 };
-    let bytes = record.to_bytes();
-    assert_eq!(bytes[..12], [6, 5, 4, 3, 1, 2, 3, 4, 5, 6, 7, 8]);
-    assert_eq!(Record::from_bytes(&bytes), record);
+    assert_eq!(play(&schedule(&[]), &mut []), (PLAYED, 0));
+    let mut out = [0x55; WRITTEN + 2];
+    assert_eq!(play(&good, &mut out), (PLAYED, WRITTEN as u64));
+    assert_eq!(out[WRITTEN..], [0x55, 0x55]);
 }

@@ -5,46 +5,17 @@
 //!
 //! The machine owns its words and starts fresh, so answers 1 (length) and 2 (broken) cannot come up here.
 
+use common::answer::{
+    DECLINED, DONE, FOUR_GUARDS, GONE, GUARDS_OPEN, HELD, LOCKED, LOG_FULL, NONE, NOT_NOW, NO_GUARD, NO_SLOT,
+    OPERATION, SLOTS_FULL,
+};
+use common::file::{BAD_CALL, BAD_MARK, BAD_VERSION, PLAYED, SHORT_OUTPUT, TORN};
+use common::kind::{ADD, CLEAR, DROP};
+use common::{
+    call, Record, Reply, ENTRY, GUARDS, HEADER, HEAD_WORDS, LOG_ROOM, LOG_WORDS, MARK, OPERATION_WORDS, PAIRS,
+    PAIR_WORDS, RECORD, SLOTS, VERSION, WORDS,
+};
 use std::collections::VecDeque;
-
-pub const SLOTS: usize = 16;
-pub const GUARDS: usize = 4;
-pub const PAIRS: usize = 512;
-pub const TABLE_WORDS: usize = 2 + 2 * PAIRS;
-pub const LOGGED: usize = 256;
-pub const LOG_WORDS: usize = 3 * LOGGED;
-
-pub const DONE: u8 = 0;
-pub const GONE: u8 = 3;
-pub const NO_SLOT: u8 = 4;
-pub const OPERATION: u8 = 5;
-pub const NOT_NOW: u8 = 6;
-pub const LOCKED: u8 = 7;
-pub const GUARDS_OPEN: u8 = 8;
-pub const NO_GUARD: u8 = 9;
-pub const FOUR_GUARDS: u8 = 10;
-pub const LOG_FULL: u8 = 11;
-pub const SLOTS_FULL: u8 = 12;
-pub const HELD: u8 = 13;
-pub const DECLINED: u8 = 14;
-pub const NONE: u8 = 15;
-
-pub const BAD_MARK: u64 = 21;
-pub const BAD_VERSION: u64 = 22;
-pub const TORN: u64 = 23;
-pub const BAD_CALL: u64 = 24;
-pub const SHORT_OUTPUT: u64 = 25;
-
-pub const HEADER: usize = 5;
-pub const RECORD: usize = 20;
-pub const ENTRY: usize = 9;
-
-/// What a call gives back: the answer's number and the value.
-#[derive(Clone, Copy, Debug, PartialEq, Eq)]
-pub struct Reply {
-    pub answer: u8,
-    pub value: u64,
-}
 
 fn done(value: u64) -> Reply {
     Reply { answer: DONE, value }
@@ -65,10 +36,6 @@ pub struct Operation {
     pub amount: u64,
 }
 
-pub const ADD: u8 = 1;
-pub const DROP: u8 = 2;
-pub const CLEAR: u8 = 3;
-
 impl Operation {
     pub fn is_good(&self) -> bool {
         match self.kind {
@@ -80,15 +47,20 @@ impl Operation {
     }
 }
 
+/// The first word of a pair; behind the last used pair, the first unused word.
+fn place(pair: usize) -> usize {
+    HEAD_WORDS + PAIR_WORDS * pair
+}
+
 /// Entry count, spill, then the pairs (fingerprint, count) in rising order; unused words are zero.
 #[derive(Clone)]
 pub struct Table {
-    pub words: [u64; TABLE_WORDS],
+    pub words: [u64; WORDS],
 }
 
 impl Table {
     fn empty() -> Table {
-        Table { words: [0; TABLE_WORDS] }
+        Table { words: [0; WORDS] }
     }
 
     pub fn used(&self) -> usize {
@@ -101,25 +73,25 @@ impl Table {
 
     /// The used part: entry count, spill and the used pairs.
     pub fn view(&self) -> &[u64] {
-        &self.words[..2 + 2 * self.used()]
+        &self.words[..place(self.used())]
     }
 
     /// How many pairs have a smaller key. The pairs of a table that began empty are in rising order, so the pair
     /// with the key, if there is one, stands right behind these.
-    #[cfg(not(halving))]
+    #[cfg(not(feature = "halving"))]
     fn smaller(&self, key: u64) -> usize {
         let used = self.used();
-        let pairs = &self.words[2..2 + 2 * used];
-        pairs.chunks_exact(2).position(|pair| pair[0] >= key).unwrap_or(used)
+        let pairs = &self.words[HEAD_WORDS..place(used)];
+        pairs.chunks_exact(PAIR_WORDS).position(|pair| pair[0] >= key).unwrap_or(used)
     }
 
     /// The same by halving, to time against a player that halves.
-    #[cfg(halving)]
+    #[cfg(feature = "halving")]
     fn smaller(&self, key: u64) -> usize {
         let (mut low, mut high) = (0, self.used());
         while low < high {
             let middle = (low + high) / 2;
-            if self.words[2 + 2 * middle] < key {
+            if self.words[place(middle)] < key {
                 low = middle + 1;
             } else {
                 high = middle;
@@ -131,9 +103,9 @@ impl Table {
     /// The two words of a key's pair, or none.
     pub fn look_up(&self, key: u64) -> Option<&[u64]> {
         let at = self.smaller(key);
-        let word = 2 + 2 * at;
+        let word = place(at);
         if at < self.used() && self.words[word] == key {
-            Some(&self.words[word..word + 2])
+            Some(&self.words[word..word + PAIR_WORDS])
         } else {
             None
         }
@@ -143,20 +115,20 @@ impl Table {
         match operation.kind {
             ADD => self.add(operation.key, operation.amount),
             DROP => self.remove(operation.key),
-            _ => self.words = [0; TABLE_WORDS],
+            _ => self.words = [0; WORDS],
         }
     }
 
     fn add(&mut self, key: u64, amount: u64) {
         let used = self.used();
         let at = self.smaller(key);
-        let word = 2 + 2 * at;
+        let word = place(at);
         if at < used && self.words[word] == key {
             self.words[word + 1] = self.words[word + 1].saturating_add(amount);
         } else if used == PAIRS {
             self.words[1] = self.words[1].saturating_add(1);
         } else {
-            self.words.copy_within(word..2 + 2 * used, word + 2);
+            self.words.copy_within(word..place(used), word + PAIR_WORDS);
             self.words[word] = key;
             self.words[word + 1] = amount;
             self.words[0] += 1;
@@ -166,12 +138,11 @@ impl Table {
     fn remove(&mut self, key: u64) {
         let used = self.used();
         let at = self.smaller(key);
-        let word = 2 + 2 * at;
+        let word = place(at);
         if at < used && self.words[word] == key {
-            let end = 2 + 2 * used;
-            self.words.copy_within(word + 2..end, word);
-            self.words[end - 2] = 0;
-            self.words[end - 1] = 0;
+            let end = place(used);
+            self.words.copy_within(word + PAIR_WORDS..end, word);
+            self.words[end - PAIR_WORDS..end].fill(0);
             self.words[0] -= 1;
         }
     }
@@ -271,7 +242,7 @@ impl Machine {
         slots[0].used = true;
         Machine {
             copies: [Table::empty(), Table::empty()],
-            log: VecDeque::with_capacity(LOGGED),
+            log: VecDeque::with_capacity(LOG_ROOM),
             swap_index: 0,
             slots,
             snapshots: [0; SLOTS],
@@ -292,7 +263,7 @@ impl Machine {
     /// The log as the document lays it out: three words an operation, oldest first, unused words zero.
     pub fn log_words(&self) -> [u64; LOG_WORDS] {
         let mut words = [0; LOG_WORDS];
-        for (operation, place) in self.log.iter().zip(words.chunks_exact_mut(3)) {
+        for (operation, place) in self.log.iter().zip(words.chunks_exact_mut(OPERATION_WORDS)) {
             place.copy_from_slice(&[operation.kind as u64, operation.key, operation.amount]);
         }
         words
@@ -466,7 +437,7 @@ impl Machine {
             // No reader has ever been in the write copy. The crate enters and leaves its own handle meanwhile.
             self.copies[1 - self.pointer].apply(operation);
             self.slots[0].epoch = self.slots[0].epoch.wrapping_add(2);
-        } else if self.log.len() == LOGGED {
+        } else if self.log.len() == LOG_ROOM {
             return only(LOG_FULL);
         } else {
             self.log.push_back(operation);
@@ -701,78 +672,43 @@ impl Machine {
 // ---------------------------------------------------------------------------------------------------------------
 // Schedules
 
-/// One record of a schedule. Fields that its call does not use are ignored.
-#[derive(Clone, Copy, Debug, PartialEq, Eq)]
-pub struct Record {
-    pub call: u8,
-    pub slot: u8,
-    pub guard: u8,
-    pub kind: u8,
-    pub key: u64,
-    pub amount: u64,
-}
-
-impl Record {
-    pub fn from_bytes(bytes: &[u8]) -> Record {
-        let word = |at: usize| u64::from_le_bytes(bytes[at..at + 8].try_into().unwrap());
-        Record { call: bytes[0], slot: bytes[1], guard: bytes[2], kind: bytes[3], key: word(4), amount: word(12) }
-    }
-
-    pub fn to_bytes(&self) -> [u8; RECORD] {
-        let mut bytes = [0; RECORD];
-        bytes[..4].copy_from_slice(&[self.call, self.slot, self.guard, self.kind]);
-        bytes[4..12].copy_from_slice(&self.key.to_le_bytes());
-        bytes[12..].copy_from_slice(&self.amount.to_le_bytes());
-        bytes
-    }
-}
-
 impl Machine {
     pub fn call(&mut self, record: &Record) -> Reply {
         let Record { call, slot, guard, kind, key, amount } = *record;
         match call {
-            1 => self.create(),
-            2 => self.drop_handle(slot),
-            3 => self.enter(slot),
-            4 => self.go_on(slot),
-            5 => self.release(slot, guard),
-            6 => self.look_up(slot, guard, key),
-            7 => self.was_dropped(slot),
-            8 => self.append(Operation { kind, key, amount }),
-            9 => self.publish(),
-            10 => self.try_publish(),
-            11 => self.flush(),
-            12 => self.take(),
-            13 => self.step(),
-            14 => self.run(),
+            call::CREATE => self.create(),
+            call::DROP => self.drop_handle(slot),
+            call::ENTER => self.enter(slot),
+            call::GO_ON => self.go_on(slot),
+            call::RELEASE => self.release(slot, guard),
+            call::LOOK_UP => self.look_up(slot, guard, key),
+            call::WAS_DROPPED => self.was_dropped(slot),
+            call::APPEND => self.append(Operation { kind, key, amount }),
+            call::PUBLISH => self.publish(),
+            call::TRY => self.try_publish(),
+            call::FLUSH => self.flush(),
+            call::TAKE => self.take(),
+            call::STEP => self.step(),
+            call::RUN => self.run(),
             _ => unreachable!("the file is checked before it is played"),
         }
     }
 }
 
-/// A schedule file of these records.
-pub fn schedule(records: &[Record]) -> Vec<u8> {
-    let mut bytes = b"LRT\x01\x00".to_vec();
-    for record in records {
-        bytes.extend_from_slice(&record.to_bytes());
-    }
-    bytes
-}
-
 /// Plays a schedule from a fresh machine: the answer, and how many bytes of `out` were written.
 /// A refused file writes nothing, and what lies behind the transcript is never touched.
 pub fn play(schedule: &[u8], out: &mut [u8]) -> (u64, u64) {
-    if schedule.len() < HEADER || &schedule[..3] != b"LRT" {
+    if schedule.len() < HEADER || schedule[..MARK.len()] != MARK {
         return (BAD_MARK, 0);
     }
-    if schedule[3..HEADER] != [1, 0] {
+    if schedule[MARK.len()..HEADER] != VERSION {
         return (BAD_VERSION, 0);
     }
     let records = &schedule[HEADER..];
     if records.len() % RECORD != 0 {
         return (TORN, 0);
     }
-    if records.chunks_exact(RECORD).any(|record| !(1..=14).contains(&record[0])) {
+    if records.chunks_exact(RECORD).any(|record| !(call::FIRST..=call::LAST).contains(&record[0])) {
         return (BAD_CALL, 0);
     }
     let written = records.len() / RECORD * ENTRY;
@@ -782,10 +718,9 @@ pub fn play(schedule: &[u8], out: &mut [u8]) -> (u64, u64) {
     let mut machine = Machine::fresh();
     for (record, entry) in records.chunks_exact(RECORD).zip(out.chunks_exact_mut(ENTRY)) {
         let reply = machine.call(&Record::from_bytes(record));
-        entry[0] = reply.answer;
-        entry[1..].copy_from_slice(&reply.value.to_le_bytes());
+        entry.copy_from_slice(&reply.to_bytes());
     }
-    (0, written as u64)
+    (PLAYED, written as u64)
 }
 
 #[cfg(test)]

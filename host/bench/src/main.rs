@@ -7,25 +7,22 @@
 //! only ever adds. The reference walks through the pairs of a table; `halving` is the same program with a search by
 //! halving.
 
-use common::Random;
-use lrt::Player;
-use reference::{Record, ENTRY};
+use common::{call, file, kind, schedule, Player, Random, Record, ENTRY, LOG_ROOM, SLOTS};
 use std::time::Instant;
 
 const TURNS: usize = 15;
 
 const RECORDS: u64 = 100_000;
 
-fn record(call: u8) -> Record {
-    Record { call, slot: 0, guard: 0, kind: 0, key: 0, amount: 0 }
-}
+/// Keys of the two large tables: most of the pairs that there is room for.
+const KEYS: u64 = 400;
 
-fn on(call: u8, slot: u8) -> Record {
-    Record { slot, ..record(call) }
-}
+/// A publish, run to its end.
+const PUBLISH: [Record; 2] = [Record::of(call::PUBLISH), Record::of(call::RUN)];
 
-fn append(kind: u8, key: u64, amount: u64) -> Record {
-    Record { kind, key, amount, ..record(8) }
+/// A handle goes inside.
+const fn inside(slot: u8) -> [Record; 2] {
+    [Record::on(slot, call::ENTER), Record::on(slot, call::GO_ON)]
 }
 
 /// A key looks like a fingerprint: spread over all 64 bits.
@@ -35,12 +32,13 @@ fn key(choose: &mut Random, keys: u64) -> u64 {
 
 fn look_ups(length: usize) -> Vec<Record> {
     let mut choose = Random::new(1);
-    let mut records = vec![record(1)];
-    // A table of a bit under 400 keys, and look-ups that find two of three.
-    records.extend((0..2000).map(|_| append(1, key(&mut choose, 400), 1)));
-    records.extend([record(9), record(14), on(3, 1), on(4, 1)]);
+    let mut records = vec![Record::of(call::CREATE)];
+    // A bit under all keys are there, and look-ups find two of three.
+    records.extend((0..5 * KEYS).map(|_| Record::append(kind::ADD, key(&mut choose, KEYS), 1)));
+    records.extend(PUBLISH);
+    records.extend(inside(1));
     while records.len() < length {
-        records.push(Record { slot: 1, key: key(&mut choose, 600), ..record(6) });
+        records.push(Record { key: key(&mut choose, KEYS * 3 / 2), ..Record::on(1, call::LOOK_UP) });
     }
     records.truncate(length);
     records
@@ -48,34 +46,35 @@ fn look_ups(length: usize) -> Vec<Record> {
 
 fn appends(length: usize) -> Vec<Record> {
     let mut choose = Random::new(2);
-    let mut records = vec![record(9), record(14)];
+    let mut records = PUBLISH.to_vec();
     while records.len() < length {
-        for _ in 0..64 {
-            let key = key(&mut choose, 400);
-            records.push(if choose.chance(1, 8) { append(2, key, 0) } else { append(1, key, 1) });
+        for _ in 0..LOG_ROOM / 4 {
+            let key = key(&mut choose, KEYS);
+            let drops = choose.chance(1, 8);
+            records.push(if drops { Record::append(kind::DROP, key, 0) } else { Record::append(kind::ADD, key, 1) });
         }
-        records.extend([record(9), record(14)]);
+        records.extend(PUBLISH);
     }
     records.truncate(length);
     records
 }
 
 fn held(length: usize) -> Vec<Record> {
-    let mut records: Vec<Record> = (1..16).map(|_| record(1)).collect();
-    for slot in 1..16 {
-        records.extend([on(3, slot), on(4, slot)]);
-    }
-    records.extend([record(9), record(14)]);
+    const READERS: std::ops::Range<u8> = 1..SLOTS as u8;
+    let mut records: Vec<Record> = READERS.map(|_| Record::of(call::CREATE)).collect();
+    records.extend(READERS.flat_map(inside));
+    records.extend(PUBLISH);
     while records.len() < length {
         // Every reader holds the publish in its turn, for twenty runs and steps, and comes back at once.
-        records.extend([append(1, 7, 1), record(9)]);
-        for slot in 1..16 {
+        records.extend([Record::append(kind::ADD, 7, 1), Record::of(call::PUBLISH)]);
+        for slot in READERS {
             for _ in 0..10 {
-                records.extend([record(14), record(13)]);
+                records.extend([Record::of(call::RUN), Record::of(call::STEP)]);
             }
-            records.extend([on(5, slot), on(3, slot), on(4, slot)]);
+            records.push(Record::on(slot, call::RELEASE));
+            records.extend(inside(slot));
         }
-        records.push(record(14));
+        records.push(Record::of(call::RUN));
     }
     records.truncate(length);
     records
@@ -105,7 +104,7 @@ fn play(player: Player, schedule: &[u8], wanted: &[u8]) -> f64 {
     let start = Instant::now();
     let played = player(schedule, &mut out);
     let time = start.elapsed().as_secs_f64();
-    assert!(played == (0, out.len() as u64) && out == wanted, "a player differs from the reference");
+    assert!(played == (file::PLAYED, out.len() as u64) && out == wanted, "a player differs from the reference");
     time
 }
 
@@ -115,11 +114,11 @@ fn plays(words: &mut impl Iterator<Item = String>) -> Option<()> {
     let name = words.next()?;
     let times = common::number(words.next(), 1);
     let records = named(&name, common::number(words.next(), RECORDS) as usize)?;
-    let schedule = reference::schedule(&records);
+    let bytes = schedule(&records);
     let mut wanted = vec![0; records.len() * ENTRY];
-    reference::play(&schedule, &mut wanted);
+    reference::play(&bytes, &mut wanted);
     for _ in 0..times {
-        play(player, &schedule, &wanted);
+        play(player, &bytes, &wanted);
     }
     Some(())
 }
@@ -129,13 +128,13 @@ fn times(length: usize) {
     println!("{length} records, shortest of {TURNS} turns");
     for name in ["look-ups", "appends", "held-polls"] {
         let records = named(name, length).unwrap();
-        let schedule = reference::schedule(&records);
+        let bytes = schedule(&records);
         let mut wanted = vec![0; records.len() * ENTRY];
-        reference::play(&schedule, &mut wanted);
+        reference::play(&bytes, &mut wanted);
         let mut shortest = vec![f64::MAX; players.len()];
         for _ in 0..TURNS {
             for (best, (_, player)) in shortest.iter_mut().zip(&players) {
-                *best = best.min(play(*player, &schedule, &wanted));
+                *best = best.min(play(*player, &bytes, &wanted));
             }
         }
         let told: Vec<String> = players

@@ -1,0 +1,115 @@
+//! Schedules and transcripts as bytes.
+
+use crate::{call, ENTRY, HEADER, MARK, RECORD, VERSION};
+
+/// Where the words of a record begin, behind call, slot, guard and kind.
+const KEY: usize = 4;
+const AMOUNT: usize = KEY + 8;
+
+/// One record of a schedule. Fields that its call does not use are ignored.
+#[derive(Clone, Copy, Debug, PartialEq, Eq)]
+pub struct Record {
+    pub call: u8,
+    pub slot: u8,
+    pub guard: u8,
+    pub kind: u8,
+    pub key: u64,
+    pub amount: u64,
+}
+
+impl Record {
+    /// A call with all fields zero.
+    pub const fn of(call: u8) -> Record {
+        Record { call, slot: 0, guard: 0, kind: 0, key: 0, amount: 0 }
+    }
+
+    /// A call on a handle, and on its guard 0 where the call has one.
+    pub const fn on(slot: u8, call: u8) -> Record {
+        Record { slot, ..Record::of(call) }
+    }
+
+    pub const fn append(kind: u8, key: u64, amount: u64) -> Record {
+        Record { kind, key, amount, ..Record::of(call::APPEND) }
+    }
+
+    pub fn from_bytes(bytes: &[u8]) -> Record {
+        Record {
+            call: bytes[0],
+            slot: bytes[1],
+            guard: bytes[2],
+            kind: bytes[3],
+            key: word(&bytes[KEY..AMOUNT]),
+            amount: word(&bytes[AMOUNT..RECORD]),
+        }
+    }
+
+    pub fn to_bytes(&self) -> [u8; RECORD] {
+        let mut bytes = [0; RECORD];
+        bytes[..KEY].copy_from_slice(&[self.call, self.slot, self.guard, self.kind]);
+        bytes[KEY..AMOUNT].copy_from_slice(&self.key.to_le_bytes());
+        bytes[AMOUNT..].copy_from_slice(&self.amount.to_le_bytes());
+        bytes
+    }
+}
+
+fn word(bytes: &[u8]) -> u64 {
+    u64::from_le_bytes(bytes.try_into().expect("eight bytes"))
+}
+
+/// What a call gives back, and what an entry of a transcript says: the answer's number and the value.
+#[derive(Clone, Copy, Debug, PartialEq, Eq)]
+pub struct Reply {
+    pub answer: u8,
+    pub value: u64,
+}
+
+impl Reply {
+    pub fn from_bytes(bytes: &[u8]) -> Reply {
+        Reply { answer: bytes[0], value: word(&bytes[1..ENTRY]) }
+    }
+
+    #[inline]
+    pub fn to_bytes(&self) -> [u8; ENTRY] {
+        let mut bytes = [self.answer; ENTRY];
+        bytes[1..].copy_from_slice(&self.value.to_le_bytes());
+        bytes
+    }
+}
+
+impl std::fmt::Display for Reply {
+    fn fmt(&self, to: &mut std::fmt::Formatter) -> std::fmt::Result {
+        write!(to, "{} {}", self.answer, self.value)
+    }
+}
+
+/// A schedule file of these records.
+pub fn schedule(records: &[Record]) -> Vec<u8> {
+    let mut bytes = Vec::with_capacity(HEADER + records.len() * RECORD);
+    bytes.extend_from_slice(&MARK);
+    bytes.extend_from_slice(&VERSION);
+    for record in records {
+        bytes.extend_from_slice(&record.to_bytes());
+    }
+    bytes
+}
+
+#[cfg(test)]
+mod tests {
+    use super::*;
+
+    #[test]
+    fn records_go_to_bytes_and_back() {
+        let record = Record { call: 6, slot: 5, guard: 4, kind: 3, key: 0x0807060504030201, amount: u64::MAX - 1 };
+        let bytes = record.to_bytes();
+        assert_eq!(bytes[..12], [6, 5, 4, 3, 1, 2, 3, 4, 5, 6, 7, 8]);
+        assert_eq!(Record::from_bytes(&bytes), record);
+    }
+
+    #[test]
+    fn replies_go_to_bytes_and_back() {
+        let reply = Reply { answer: 9, value: 0x0807060504030201 };
+        let bytes = reply.to_bytes();
+        assert_eq!(bytes, [9, 1, 2, 3, 4, 5, 6, 7, 8]);
+        assert_eq!(Reply::from_bytes(&bytes), reply);
+    }
+}

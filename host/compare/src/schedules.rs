@@ -1,0 +1,245 @@
+//! What is played: random schedules, most of them far within the rules, and damaged files.
+
+use crate::case::Case;
+use common::{answer, call, kind, Random, Record, ENTRY, GUARDS, HEADER, PAIRS, RECORD, SLOTS};
+use reference::{Due, Machine};
+
+const TOP: u64 = u64::MAX;
+
+/// A table of more keys than this is a large one.
+const MANY: u64 = 100;
+
+/// The first slot and the last, and just past it.
+const EDGES: [u8; 5] = [0, SLOTS as u8 - 1, SLOTS as u8, SLOTS as u8 + 1, 255];
+
+/// Mostly adds; the last two are none.
+const KINDS: [u8; 12] = {
+    use kind::{ADD, CLEAR, DROP};
+    [ADD, ADD, ADD, ADD, ADD, ADD, DROP, DROP, DROP, CLEAR, 0, CLEAR + 1]
+};
+
+/// The calls of handles that come and go.
+const CHURN: [u8; 16] = {
+    use call::*;
+    [CREATE, DROP, DROP, ENTER, GO_ON, RELEASE, RELEASE, LOOK_UP, APPEND, PUBLISH, PUBLISH, TRY, STEP, RUN, RUN, RUN]
+};
+
+/// The calls of an end: many guards, and a take among them.
+const END: [u8; 15] = {
+    use call::*;
+    [CREATE, DROP, ENTER, ENTER, ENTER, ENTER, GO_ON, GO_ON, RELEASE, LOOK_UP, WAS_DROPPED, TAKE, TAKE, STEP, RUN]
+};
+
+/// How likely each call is, in the order of the numbers.
+type Weights = [usize; call::COUNT];
+
+/// A call's place among the weights.
+const fn at(call: u8) -> usize {
+    (call - call::FIRST) as usize
+}
+
+/// Every field may be anything.
+fn wild(choose: &mut Random) -> Record {
+    let word = choose.word();
+    let byte = |at: u64| (word >> (8 * at)) as u8;
+    Record {
+        call: call::FIRST + byte(0) % call::COUNT as u8,
+        slot: byte(1),
+        guard: byte(2),
+        kind: byte(3),
+        key: choose.word(),
+        amount: choose.word(),
+    }
+}
+
+/// Fields that mostly make sense; the limits and just past them come up too.
+fn likely(choose: &mut Random, slots: usize, keys: u64, weights: &Weights) -> Record {
+    // A large table has to grow before anything else.
+    let kind = if keys > MANY && choose.chance(29, 30) { kind::ADD } else { choose.pick(&KINDS) };
+    let call = call::FIRST + choose.weighed(weights) as u8;
+    let mut record = Record {
+        call,
+        slot: if choose.chance(1, 40) { choose.pick(&EDGES) } else { choose.below(slots) as u8 },
+        guard: choose.pick(&[0, 0, 0, 0, 1, 1, 2, 3, GUARDS as u8]),
+        kind,
+        key: choose.word() % keys,
+        amount: match kind {
+            kind::ADD => choose.pick(&[1, 1, 2, 5, TOP - 1, TOP, 0]),
+            _ => (choose.chance(1, 10)) as u64,
+        },
+    };
+    if kind == kind::CLEAR && choose.chance(if keys > MANY { 1 } else { 9 }, 10) {
+        record.key = 0;
+    }
+    if keys > MANY && choose.chance(1, 20) {
+        record.key = choose.pick(&[TOP, TOP - 1, 1 << 63]);
+    }
+    record
+}
+
+/// Handles come and go in a slot or two, with publishes between.
+fn churn(choose: &mut Random) -> Record {
+    Record {
+        call: choose.pick(&CHURN),
+        slot: choose.pick(&[1, 1, 1, 1, 1, 2]),
+        guard: choose.pick(&[0, 0, 0, 0, 1]),
+        kind: kind::ADD,
+        key: 1,
+        amount: 1,
+    }
+}
+
+const NO_WEIGHTS: Weights = [1; call::COUNT];
+
+/// Some calls often and some not at all, else nothing goes on for long.
+fn weights(choose: &mut Random) -> Weights {
+    let mut weights = NO_WEIGHTS;
+    for weight in &mut weights {
+        *weight = choose.pick(&[0, 1, 1, 2, 6]);
+    }
+    // A take ends everything.
+    weights[at(call::TAKE)] = choose.chance(1, 4) as usize;
+    for call in [call::ENTER, call::GO_ON, call::PUBLISH, call::STEP, call::RUN] {
+        weights[at(call)] = weights[at(call)].max(1);
+    }
+    weights
+}
+
+fn records(choose: &mut Random) -> Vec<Record> {
+    match choose.below(20) {
+        0 => (0..choose.below(60)).map(|_| wild(choose)).collect(),
+        1 if choose.chance(1, 6) => full(choose),
+        1 | 2 => {
+            let weights = weights(choose);
+            (0..choose.below(200)).map(|_| likely(choose, 4, 5, &weights)).collect()
+        }
+        style => {
+            // What the rules refuse is mostly left out, so that the machine gets far.
+            let mut weights = weights(choose);
+            let slots = choose.pick(&[2, 3, 5, SLOTS]);
+            let (mut length, mut keys) = (10 + choose.below(300), choose.pick(&[1, 3, 8]));
+            if style == 3 {
+                // Enough to fill the log and the table.
+                (length, keys) = (1000 + choose.below(3000), choose.pick(&[8, 400, 700]));
+                weights[at(call::APPEND)] = choose.pick(&[100, 300, 2000]);
+                weights[at(call::LOOK_UP)] = 20;
+                weights[at(call::TAKE)] = 0;
+            }
+            let churned = (4..8).contains(&style);
+            let calm = choose.pick(&[2, 8, 1000]);
+            let mut machine = Machine::fresh();
+            let mut kept = Vec::new();
+            for made in 0..length {
+                let ending = !churned && style < 12 && made + 40 > length;
+                let record = match settle(choose, &machine) {
+                    _ if ending => end(choose),
+                    Some(record) if choose.chance(1, calm) => record,
+                    _ if churned => churn(choose),
+                    _ => likely(choose, slots, keys, &weights),
+                };
+                let answer = machine.call(&record).answer;
+                // A refused call changes nothing, so leaving it out changes nothing after it; nor does a held step.
+                let nothing = (answer::LENGTH..=answer::HELD).contains(&answer) && record.call != call::RUN;
+                if !nothing || choose.chance(1, 10) {
+                    kept.push(record);
+                }
+            }
+            kept
+        }
+    }
+}
+
+/// A table filled to its edge and past it, at once or through the log, and every key of it looked up.
+fn full(choose: &mut Random) -> Vec<Record> {
+    let (publish, run) = (Record::of(call::PUBLISH), Record::of(call::RUN));
+    let keys = (PAIRS - 4 + choose.below(10)) as u64;
+    let spread = choose.word() | 1;
+    let mut records = vec![Record::of(call::CREATE)];
+    if choose.chance(1, 2) {
+        records.extend([publish, run]);
+    }
+    for at in 0..keys {
+        // Before the log is full.
+        if at % 200 == 199 {
+            records.extend([publish, run, publish, run]);
+        }
+        let key = at.wrapping_mul(spread);
+        records.push(Record::append(kind::ADD, key, at + 1));
+        if choose.chance(1, 100) {
+            let gone = (choose.word() % (at + 1)).wrapping_mul(spread);
+            records.push(Record::append(kind::DROP, gone, 0));
+        }
+    }
+    records.extend([publish, run, Record::on(1, call::ENTER), Record::on(1, call::GO_ON)]);
+    records.extend((0..keys).map(|at| Record { key: at.wrapping_mul(spread), ..Record::on(1, call::LOOK_UP) }));
+    records
+}
+
+/// What brings the writer back to where it can begin something, if it is not there.
+fn settle(choose: &mut Random, machine: &Machine) -> Option<Record> {
+    let writer = &machine.slots[0];
+    if writer.due != Due::Nothing {
+        Some(Record::on(0, call::GO_ON))
+    } else if let Some(guard) = writer.guards.iter().position(|guard| guard.is_some()) {
+        Some(Record { guard: guard as u8, ..Record::on(0, call::RELEASE) })
+    } else if machine.under_way() {
+        // It may be held: then somebody has to leave.
+        let (slot, guard) = (choose.below(SLOTS) as u8, choose.below(GUARDS) as u8);
+        let leave = Record { guard, ..Record::on(slot, call::RELEASE) };
+        Some(if choose.chance(1, 2) { Record::of(call::RUN) } else { leave })
+    } else {
+        None
+    }
+}
+
+fn end(choose: &mut Random) -> Record {
+    Record {
+        call: choose.pick(&END),
+        slot: choose.pick(&[0, 1, 1, 1, 1, 1, 1, 2]),
+        guard: choose.below(GUARDS) as u8,
+        kind: 0,
+        key: choose.word() % 3,
+        amount: 0,
+    }
+}
+
+/// A file that is refused, mostly; two damages may show which comes first.
+fn damage(choose: &mut Random, case: &mut Case) {
+    match choose.below(6) {
+        0 => case.bytes[0] = choose.word() as u8,
+        1 => {
+            let at = (1 + choose.below(4)).min(case.bytes.len() - 1);
+            case.bytes[at] = choose.pick(&[0, 1, 2, b'R', b'T', 255]);
+        }
+        2 => case.bytes.truncate(1 + choose.below(case.bytes.len())),
+        3 => case.bytes.truncate(1 + choose.below(8).min(case.bytes.len() - 1)),
+        4 => case.room = choose.below(case.room + 1),
+        _ if case.bytes.len() > HEADER => {
+            let at = HEADER + RECORD * choose.below((case.bytes.len() - HEADER).div_ceil(RECORD));
+            case.bytes[at] = choose.pick(&[0, call::LAST + 1, call::LAST + 2, 128, 255, call::LAST]);
+        }
+        _ => (),
+    }
+}
+
+pub fn case(choose: &mut Random) -> Case {
+    let damaged = choose.chance(1, 6);
+    let records = if damaged {
+        let weights = NO_WEIGHTS;
+        (0..choose.below(6)).map(|_| likely(choose, 3, 3, &weights)).collect()
+    } else {
+        records(choose)
+    };
+    let spare = choose.pick(&[0, 0, 1, ENTRY - 1, ENTRY, 100]);
+    let mut case =
+        Case { bytes: common::schedule(&records), room: records.len() * ENTRY + spare, shift: choose.below(8) };
+    if damaged {
+        for _ in 0..1 + choose.below(2) {
+            damage(choose, &mut case);
+        }
+        if choose.chance(1, 40) {
+            case.bytes.clear();
+        }
+    }
+    case
+}
