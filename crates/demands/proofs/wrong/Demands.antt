@@ -1,4 +1,7 @@
 -- Wrong machines that the demands stop: each by one field, at a history that is computed.
+use Prim.Native.Nat.{_+_, _-_, _*_}
+use Rattle.table.specs.Copy.{words}
+use Rattle.read.specs.Machine.{slotCount}
 use mathlib.Core.Path.{refl, sym}
 use mathlib.Core.Bool.{true≢false}
 use mathlib.Core.List.{List, [], _∷_, _++_}
@@ -121,7 +124,7 @@ entersSnapped-wrong h = differ refl (h .answers (Create ∷ On 1 Enter ∷ Open 
 -- the step behind the drain is made
 pub leavesIndex-wrong : Demands leavesIndex → ⊥
 unfolding tells
-leavesIndex-wrong h = differ refl (h .answers (publish ++ (Append 1 7 3 ∷ publish ++ (Open Publish ∷ steps 17))) Step refl)
+leavesIndex-wrong h = differ refl (h .answers (publish ++ (Append 1 7 3 ∷ publish ++ (Open Publish ∷ steps (1 + slotCount)))) Step refl)
 
 -- ---- values
 
@@ -146,18 +149,18 @@ leavesCopying-wrong h = differ refl (h .values (Create ∷ Append 1 7 3 ∷ publ
 -- of the last step
 pub ignoresSteps-wrong : Demands ignoresSteps → ⊥
 unfolding tells
-ignoresSteps-wrong h = differ refl (h .values (Open Publish ∷ steps 16) Step refl)
+ignoresSteps-wrong h = differ refl (h .values (Open Publish ∷ steps slotCount) Step refl)
 
 pub flushForgets-wrong : Demands flushForgets → ⊥
 unfolding tells
-flushForgets-wrong h = differ refl (h .values (publish ++ (publish ++ (Open Flush ∷ Open Publish ∷ steps 32))) Step refl)
+flushForgets-wrong h = differ refl (h .values (publish ++ (publish ++ (Open Flush ∷ Open Publish ∷ steps (2 * slotCount)))) Step refl)
 
 -- ---- runs
 
 -- made
 pub inventsValue-wrong : Demands inventsValue → ⊥
 unfolding tells
-inventsValue-wrong h = differ refl (h .runs (Open Publish ∷ []) .made 17 (lit≤ tt))
+inventsValue-wrong h = differ refl (h .runs (Open Publish ∷ []) .made (1 + slotCount) (lit≤ tt))
 
 -- ended: a step was made
 pub runsFree-wrong : Demands runsFree → ⊥
@@ -258,7 +261,7 @@ oldSnapshots-wrong h = true≢false (h .hands-over (Create ∷ publish ++ (enter
 -- left
 pub copyTrails-wrong : Demands copyTrails → ⊥
 unfolding tells
-copyTrails-wrong h = differ refl (h .unused (publish ++ publish) .left 1025 (lit≤ tt))
+copyTrails-wrong h = differ refl (h .unused (publish ++ publish) .left (words - 1) (lit≤ tt))
 
 -- right
 pub dropTrails-wrong : Demands dropTrails → ⊥

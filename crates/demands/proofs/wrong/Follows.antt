@@ -1,5 +1,5 @@
 -- Wrong machines that what the demands come to stops, each by one field; and one that the known ends stop.
-use Prim.Native.Nat.{ℕ, _<_}
+use Prim.Native.Nat.{ℕ, _+_, _<_}
 use mathlib.Core.Path.{_≡_, refl, sym}
 use mathlib.Core.Logic.{_⊎_, inl, inr}
 use mathlib.Core.Bool.{false, true≢false}
@@ -8,6 +8,7 @@ use native.Mathlib.Omega.{arith}
 use lib.ListN.{length, getD}
 use lib.Dec.{eqb, lit≤}
 use Rattle.table.proofs.Computes.{apart}
+use Rattle.read.specs.Machine.{slotCount}
 use Rattle.read.specs.declared.Handle.the-variants.{Drop, Enter, Release}
 use Rattle.write.specs.declared.Opening.the-variants.{Publish, Take}
 use Rattle.write.specs.declared.Call.{Call}
@@ -80,7 +81,7 @@ publishesGone-wrong h = differ refl (h .goes (Open Take ∷ Run ∷ Open Publish
 pub acceptsBusy-wrong : Follows acceptsBusy → ⊥
 unfolding tells
 acceptsBusy-wrong h =
-    let z : 18 < 18 = h .ends [] Publish refl refl (Step ∷ Open Publish ∷ Run ∷ []) .before refl in omega arith
+    let z : 2 + slotCount < 2 + slotCount = h .ends [] Publish refl refl (Step ∷ Open Publish ∷ Run ∷ []) .before refl in omega arith
 
 -- at-end
 pub inventsValue-wrong-at-end : Follows inventsValue → ⊥

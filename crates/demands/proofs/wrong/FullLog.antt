@@ -1,6 +1,6 @@
--- An append that is refused at 255 operations. 256 appends are too long a history to compute: each is answered 0, since the demands say
--- so, and then the log has one operation more.
-use Prim.Native.Nat.{ℕ, zero, suc, _+_, _≤_, _<_}
+-- An append that is refused where one place is left in the log. So many appends are too long a history to compute: each is answered 0,
+-- since the demands say so, and then the log has one operation more.
+use Prim.Native.Nat.{ℕ, zero, suc, _+_, _-_, _≤_, _<_}
 use mathlib.Core.Path.{_≡_, refl, sym, ap, _∙_, subst, subst₂}
 use mathlib.Core.Bool.{Bool, true, false, _&&_, true≢false}
 use mathlib.Core.List.{List, [], _∷_, _++_}
@@ -16,7 +16,7 @@ use Rattle.read.specs.declared.Reply.{Reply}
 use Rattle.read.specs.declared.Control.{Control}
 use Rattle.read.specs.declared.Verdict.{Verdict}
 use Rattle.read.specs.declared.Verdict.the-variants.{Admitted, Refused}
-use Rattle.read.specs.Machine.{sized, wholeControl, firstUnlawful, glanced, judged}
+use Rattle.read.specs.Machine.{logRoom, sized, wholeControl, firstUnlawful, glanced, judged}
 use Rattle.read.specs.Calls.{Lent, lent, slotAt, refusal}
 use Rattle.write.specs.declared.Call.{Call}
 use Rattle.write.specs.declared.Call.the-variants.{Append}
@@ -29,7 +29,7 @@ use Rattle.demands.specs.Account.{Account, account, stored, noted}
 use Rattle.demands.specs.Table.{wanted}
 use Rattle.demands.specs.Demands.{Told, Demands, tell, telling, told, freshTold}
 use Rattle.demands.specs.KnownEnds.{publish}
-use Rattle.demands.proofs.wrong.Machines.{fullAt255}
+use Rattle.demands.proofs.wrong.Machines.{fullEarly}
 use Rattle.demands.proofs.wrong.Histories.{tells, differ}
 
 -- ---- an append that is made
@@ -69,16 +69,16 @@ module _ (st : State) (l r g : List ℕ) (later : st .control .first ≡ false) 
       (λ q h. absurd (true≢false (sym q ∙ later))) (λ q u h z. (refl, refl)) (λ a h z. absurd (omega (arith, h, z))))
       (λ a v z. absurd (let y = subst Grave v (judged-grave (st .control) l r g) in omega (arith, y, z)))
 
-  -- of the wrong machine: and had fewer than 255
-  full-grows : answerOf (fullAt255 add st l r g) ≡ 0 → (st .control .length < 255) × Grows st (fullAt255 add st l r g)
-  full-grows = go (leb 255 (st .control .length)) (eqb (answerOf (callRule add st l r g)) 0) refl refl
+  -- of the wrong machine: and had two places left
+  full-grows : answerOf (fullEarly add st l r g) ≡ 0 → (st .control .length + 1 < logRoom) × Grows st (fullEarly add st l r g)
+  full-grows = go (leb logRoom (st .control .length + 1)) (eqb (answerOf (callRule add st l r g)) 0) refl refl
     where
-      go : (x y : Bool) → leb 255 (st .control .length) ≡ x → eqb (answerOf (callRule add st l r g)) 0 ≡ y →
+      go : (x y : Bool) → leb logRoom (st .control .length + 1) ≡ x → eqb (answerOf (callRule add st l r g)) 0 ≡ y →
           (let o : Lent Reply = elim (x && y) [ true ↦ lent (refusal LogFull st) l r g | false ↦ callRule add st l r g ] in
-          answerOf o ≡ 0 → (st .control .length < 255) × Grows st o)
+          answerOf o ≡ 0 → (st .control .length + 1 < logRoom) × Grows st o)
       go true true e q z = absurd (differ refl z)
       go true false e q z = absurd (eqb-false (answerOf (callRule add st l r g)) 0 q z)
-      go false y e q z = (leb-false 255 (st .control .length) e, grows)
+      go false y e q z = (leb-false logRoom (st .control .length + 1) e, grows)
 
 -- ---- publish, and n appends
 
@@ -88,11 +88,11 @@ adds (suc n) = adds n ++ (add ∷ [])
 
 -- what the history says then, os being accepted
 abbrev says : List Op → ℕ → Account
-says os n = account (told fullAt255 publish .account .readers) (stored os [] [] n 0 1 false) [] false false false
+says os n = account (told fullEarly publish .account .readers) (stored os [] [] n 0 1 false) [] false false false
 
-wanted-add : (os : List Op) (n : ℕ) → n < 256 → wanted (says os n) add ≡ 0
+wanted-add : (os : List Op) (n : ℕ) → n < logRoom → wanted (says os n) add ≡ 0
 unfolding tells
-wanted-add os n b = ap (λ (x : Bool). elim x [ true ↦ 11 | false ↦ 0 ]) (lt-leb 256 n b)
+wanted-add os n b = ap (λ (x : Bool). elim x [ true ↦ 11 | false ↦ 0 ]) (lt-leb logRoom n b)
 
 -- after n appends: what was said, and what the state has
 record At (n : ℕ) (t : Told) : Type 0 where
@@ -106,14 +106,14 @@ unfolding telling
 telling-last m [] k t = refl
 telling-last m (p ∷ ps) k t = telling-last m ps k (tell m p t)
 
-module _ (h : Demands fullAt255) where
-  -- one append more is wanted, so it is made, so fewer than 255 were in the log
-  more : (n : ℕ) (ks : List Call) → n < 256 → At n (told fullAt255 ks) → (n < 255) × At (n + 1) (tell fullAt255 add (told fullAt255 ks))
+module _ (h : Demands fullEarly) where
+  -- one append more is wanted, so it is made, so two places were left in the log
+  more : (n : ℕ) (ks : List Call) → n < logRoom → At n (told fullEarly ks) → (n + 1 < logRoom) × At (n + 1) (tell fullEarly add (told fullEarly ks))
   unfolding tells
   more n ks b i =
-      let t = told fullAt255 ks in
+      let t = told fullEarly ks in
       let w = t .world in
-      let o = reply fullAt255 add w in
+      let o = reply fullEarly add w in
       let z : answerOf o ≡ 0 = h .answers ks add refl ∙ ap (λ (a : Account). wanted a add) (i .said) ∙ wanted-add (i .os) n b in
       let f = full-grows (w .state) (w .left) (w .right) (w .log) (i .later) z in
       let c = f .1 z in (
@@ -126,13 +126,13 @@ module _ (h : Demands fullAt255) where
         },
       )
 
-  after-adds : (n : ℕ) → n ≤ 255 → At n (told fullAt255 (adds n))
+  after-adds : (n : ℕ) → n < logRoom → At n (told fullEarly (adds n))
   unfolding tells
   after-adds zero b = record { os = []; said = refl; holds = refl; later = refl }
   after-adds (suc n) b =
       let e : n + 1 ≡ suc n = omega arith in
-      subst₂ At e (sym (telling-last fullAt255 (adds n) add freshTold)) (more n (adds n) (omega arith) (after-adds n (omega arith)) .1)
+      subst₂ At e (sym (telling-last fullEarly (adds n) add freshTold)) (more n (adds n) (omega arith) (after-adds n (omega arith)) .1)
 
 -- answers
-pub fullAt255-wrong : Demands fullAt255 → ⊥
-fullAt255-wrong h = let z = more h 255 (adds 255) (lit≤ tt) (after-adds h 255 (lit≤ tt)) .0 in omega arith
+pub fullEarly-wrong : Demands fullEarly → ⊥
+fullEarly-wrong h = let z = more h (logRoom - 1) (adds (logRoom - 1)) (lit≤ tt) (after-adds h (logRoom - 1) (lit≤ tt)) .0 in omega arith
