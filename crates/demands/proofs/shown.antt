@@ -4,10 +4,8 @@ pub mod Guards
 pub mod Slot
 pub mod Log
 pub mod Stages
+pub mod Unused
 pub mod Lifts
 pub mod Steps
 pub mod Calls
-pub mod Alone
-pub mod AloneCalls
 pub mod Fresh
-pub mod Unused

@@ -47,11 +47,11 @@ use Rattle.demands.specs.Account.{Reader, Account, withAt, newReader, tu
 use Rattle.write.specs.Numbers.{isRun}
 use Rattle.demands.specs.Table.{wanted, wantedValue, worth, worthOn}
 use Rattle.demands.proofs.Phases.{withJob}
-use Rattle.demands.proofs.shown.Invariant.{seenOf, Quiet, ViewOf, Inv}
+use Rattle.demands.proofs.shown.Invariant.{Held, reachAt, seen, seenOf, Quiet, ViewOf, Inv}
 use Rattle.demands.proofs.shown.Guards.{at-set, none-open, same-at, other-at, new-shut}
 use Rattle.demands.proofs.shown.Slot.{rowAfter, handled-view, new-view, reload}
 use Rattle.demands.proofs.shown.Log.{length-ops}
-use Rattle.demands.proofs.shown.Stages.{early-empty}
+use Rattle.demands.proofs.shown.Stages.{before-null, early-empty}
 use Rattle.demands.proofs.shown.Lifts.{atSlot, slot-keeps, both-back}
 use Rattle.demands.proofs.shown.Calls.{Resting, own-quiet, first-keeps, later-keeps, publish-keeps, try-keeps, take-keeps}
 use Rattle.demands.proofs.Sound.{SoundIn}
@@ -127,7 +127,7 @@ module _ (rs : ℕ → Reader) (i : ℕ) where
 
 pub loads-nothing : {x : World} (a : Account) (i : ℕ) (r : Reader) → r .loaded ≡ a .readers i .loaded → InvOf x a → InvOf x (ofReader i (λ _. r) a)
 loads-nothing {x} a i r e h =
-    subst (λ (ld : ℕ → ℕ → List Op). Inv x (record { accepted = a .store .accepted; atBegin = a .store .atBegin; published = a .store .published; loaded = ld }))
+    subst (λ (ld : ℕ → ℕ → List Op). Inv x (seen (a .store .accepted) (a .store .atBegin) (a .store .published) ld))
     (λ z k. sym (same-loaded (a .readers) i r e k) z) h
 
 -- ---- a refusal is noted by nothing
@@ -191,7 +191,7 @@ module _ {w : World} {a : Account} (tie : Tie w a) where
   slot-inv : (i : ℕ) → i < slotCount → (r : Reader) (s : Slot) → (i ≡ 0 → underway (c .phase) ≡ true → Quiet s) → ViewOf w i (r .loaded) s →
       InvOf (atSlot i s w) (ofReader i (λ _. r) a)
   slot-inv i lt r s quiet v =
-      slot-keeps len (tie .inv) i lt s (λ k. withAt i r (a .readers) k .loaded) (other-loaded (a .readers) i r) quiet
+      slot-keeps (tie .sound) (tie .inv) i lt s (λ k. withAt i r (a .readers) k .loaded) (other-loaded (a .readers) i r) quiet
       (subst (λ (q : Reader). ViewOf w i (q .loaded) s) (sym (same-at i r (a .readers))) v)
 
   -- ---- create
@@ -248,6 +248,9 @@ module _ {w : World} {a : Account} (tie : Tie w a) where
           reads = slot-reads (w .state) a len (tie .reads) i lt _ (m .slot) (x .reads);
         }
 
+    unwaited : c .null ≡ false → Held (reachAt (c .phase) .emptied) (reachAt (c .phase) .resnapped) i (snapAt (w .state) i) (s .epoch)
+    unwaited z = let (e, r) = before-null (c .phase) (sym (whole .pointed) ∙ z) in (omega arith, λ lt. absurd (omega arith))
+
     on-right : OnRight (handleOn c (eqb i 0) s hd (w .left) (w .right))
     unfolding handleOn
     on-right =
@@ -257,7 +260,7 @@ module _ {w : World} {a : Account} (tie : Tie w a) where
         let u = admitted-unopposed signs v in
         met-right (handled c s hd (w .left) (w .right)) (want-on ∙ ap (λ y. answerNo y (answer15 (misses (a .readers i) hd (c .null)))) v)
         (own-quiet (tie .sound) (tie .inv) i hd (handled c s hd (w .left) (w .right) .slot) u)
-        (handled-view c (a .store .published) (tie .inv .read) (tie .inv .each i) (not-false _ (u .slot)) (eqb i 0) hd u)
+        (handled-view c (a .store .published) (tie .inv .read) (tie .inv .each i) (not-false _ (u .slot)) unwaited (eqb i 0) hd u)
         (handled-met (a .store .published) (tie .reads i) (tie .inv .each i .four) c (w .left) (w .right) (tie .inv .each i .shows) (eqb i 0) hd u))
         (λ x v.
         mild-right (On i hd) refl x (refused-mild signs x v) (want-on ∙ ap (λ y. answerNo y (answer15 (misses (a .readers i) hd (c .null)))) v)

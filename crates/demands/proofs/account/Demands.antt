@@ -40,11 +40,10 @@ use Rattle.demands.proofs.shown.Invariant.{seenOf, Stage, opsOf}
 use Rattle.demands.proofs.shown.Guards.{open-below, all-shut, other-at, new-shut}
 use Rattle.demands.proofs.shown.Slot.{guard-inside}
 use Rattle.demands.proofs.shown.Stages.{gone-stage}
-use Rattle.demands.proofs.shown.AloneCalls.{Waits, fresh-waits, gone-shut, call-waits}
 use Rattle.demands.proofs.shown.Fresh.{fresh-inv, free-everywhere}
 use Rattle.demands.proofs.Sound.{of-rule, sound-next}
 use Rattle.demands.proofs.delay.RunIsSteps.{run-is-steps-sound}
-use Rattle.demands.proofs.shown.Unused.{Unused, fresh-unused, call-unused}
+use Rattle.demands.proofs.shown.Lifts.{gone-shut}
 use Rattle.demands.proofs.account.Control.{Stands}
 use Rattle.demands.proofs.account.Reader.{Reads}
 use Rattle.demands.proofs.account.Rows.{answerNo, busy-is, row}
@@ -55,66 +54,55 @@ use Rattle.demands.proofs.Booleans.{clash}
 
 -- ---- one call
 
--- the world, and what the history says, are alike
-pub record All (w : World) (a : Account) : Type 0 where
-  pub tie : Tie w a
-  pub waits : Waits (w .state)
-  pub unused : Unused w
-
-module _ {w : World} {a : Account} (h : All w a) where
+module _ {w : World} {a : Account} (h : Tie w a) where
   pub right : (k : Call) → isRun k ≡ false → Right a k (reply callRule k w)
-  right k q = of-rule (Right a k) k w (h .tie .sound) (on k q)
+  right k q = of-rule (Right a k) k w (h .sound) (on k q)
     where
       on : (k : Call) → isRun k ≡ false → Right a k (reply callOn k w)
-      on Create q = create-right (h .tie)
-      on (On i x) q = handle-right (h .tie) i x
-      on (Append kind key amount) q = append-right (h .tie) kind key amount
-      on (Open o) q = open-right (h .tie) o
-      on Step q = step-right (h .tie)
+      on Create q = create-right h
+      on (On i x) q = handle-right h i x
+      on (Append kind key amount) q = append-right h kind key amount
+      on (Open o) q = open-right h o
+      on Step q = step-right h
       on Run q = clash refl q
 
-  pub all-call : (k : Call) → isRun k ≡ false → (let o = reply callRule k w in All (next callRule k w) (noted k (answerOf o) (valueOf o) a))
+  pub all-call : (k : Call) → isRun k ≡ false → (let o = reply callRule k w in Tie (next callRule k w) (noted k (answerOf o) (valueOf o) a))
   all-call k q =
-      let r = right k q in
-      record {
-        tie = record { sound = sound-next k w (h .tie .sound); inv = r .inv; steers = r .steers; reads = r .reads };
-        waits = call-waits (h .tie .sound) (h .tie .inv) (h .waits) k q;
-        unused = call-unused (h .tie .sound) (h .unused) k q;
-      }
+      let r = right k q in record { sound = sound-next k w (h .sound); inv = r .inv; steers = r .steers; reads = r .reads }
 
 -- ---- a run
 
-pub all-steps : (n : ℕ) (w : World) (a : Account) → All w a → ((j : ℕ) → j < n → answerOf (reply callRule Step (steppedWorld callRule j w)) ≡ 0) →
-    All (steppedWorld callRule n w) (ran n a)
+pub all-steps : (n : ℕ) (w : World) (a : Account) → Tie w a → ((j : ℕ) → j < n → answerOf (reply callRule Step (steppedWorld callRule j w)) ≡ 0) →
+    Tie (steppedWorld callRule n w) (ran n a)
 all-steps zero w a h made = h
 all-steps (suc n) w a h made =
     all-steps n (next callRule Step w) (advanced (a .plan) a)
-    (subst (λ (x : ℕ). All (next callRule Step w) (noted Step x (valueOf (reply callRule Step w)) a)) (made 0 (omega arith)) (all-call h Step refl))
+    (subst (λ (x : ℕ). Tie (next callRule Step w) (noted Step x (valueOf (reply callRule Step w)) a)) (made 0 (omega arith)) (all-call h Step refl))
     (λ j b. made (suc j) (omega arith))
 
-all-run : {w : World} {a : Account} → All w a → (let o = reply callRule Run w in All (next callRule Run w) (noted Run (answerOf o) (valueOf o) a))
+all-run : {w : World} {a : Account} → Tie w a → (let o = reply callRule Run w in Tie (next callRule Run w) (noted Run (answerOf o) (valueOf o) a))
 all-run {w} {a} h = go (answerOf (reply callRule Run w)) refl
   where
     runs : RunIsSteps callRule w
-    runs = run-is-steps-sound w (h .tie .sound)
+    runs = run-is-steps-sound w (h .sound)
 
     v : ℕ
     v = valueOf (reply callRule Run w)
 
-    here : All (steppedWorld callRule (valueOf (reply callRule Run w)) w) (ran (valueOf (reply callRule Run w)) a)
+    here : Tie (steppedWorld callRule (valueOf (reply callRule Run w)) w) (ran (valueOf (reply callRule Run w)) a)
     here = all-steps (valueOf (reply callRule Run w)) w a h (runs .made)
 
-    go : (x : ℕ) → answerOf (reply callRule Run w) ≡ x → All (next callRule Run w) (noted Run x (valueOf (reply callRule Run w)) a)
-    go zero e = subst (λ (y : World). All y (ran (valueOf (reply callRule Run w)) a)) (sym (runs .ended e .1)) here
+    go : (x : ℕ) → answerOf (reply callRule Run w) ≡ x → Tie (next callRule Run w) (noted Run x (valueOf (reply callRule Run w)) a)
+    go zero e = subst (λ (y : World). Tie y (ran (valueOf (reply callRule Run w)) a)) (sym (runs .ended e .1)) here
     go (suc x) e =
         let s = runs .stopped (λ z. omega arith) in
         let y = steppedWorld callRule (valueOf (reply callRule Run w)) w in
-        subst₂ (λ (z : World) (n : ℕ). All z (noted Step n (valueOf (reply callRule Step y)) (ran (valueOf (reply callRule Run w)) a)))
+        subst₂ (λ (z : World) (n : ℕ). Tie z (noted Step n (valueOf (reply callRule Step y)) (ran (valueOf (reply callRule Run w)) a)))
         (sym (s .1)) (s .0 ∙ e) (all-call here Step refl)
 
 -- ---- every history
 
-pub all-tell : (k : Call) (t : Told) → All (t .world) (t .account) → All (tell callRule k t .world) (tell callRule k t .account)
+pub all-tell : (k : Call) (t : Told) → Tie (t .world) (t .account) → Tie (tell callRule k t .world) (tell callRule k t .account)
 unfolding tell
 all-tell Create t h = all-call h Create refl
 all-tell (On i x) t h = all-call h (On i x) refl
@@ -123,30 +111,26 @@ all-tell (Open o) t h = all-call h (Open o) refl
 all-tell Step t h = all-call h Step refl
 all-tell Run t h = all-run h
 
-all-telling : (ks : List Call) (t : Told) → All (t .world) (t .account) → All (telling callRule ks t .world) (telling callRule ks t .account)
+all-telling : (ks : List Call) (t : Told) → Tie (t .world) (t .account) → Tie (telling callRule ks t .world) (telling callRule ks t .account)
 unfolding telling
 all-telling [] t h = h
 all-telling (k ∷ ks) t h = all-telling ks (tell callRule k t) (all-tell k t h)
 
-fresh-all : All freshWorld freshAccount
+fresh-all : Tie freshWorld freshAccount
 fresh-all =
     record {
-      tie = record {
-        sound = sound-fresh;
-        inv = fresh-inv;
-        steers = record {
-          first = refl;
-          second = refl;
-          side = refl;
-          null = refl;
-          tries = refl;
-          left = refl;
-          stands = record { log = (refl, refl); last = λ z. clash z refl; over = refl };
-        };
-        reads = reads;
+      sound = sound-fresh;
+      inv = fresh-inv;
+      steers = record {
+        first = refl;
+        second = refl;
+        side = refl;
+        null = refl;
+        tries = refl;
+        left = refl;
+        stands = record { log = (refl, refl); last = λ z. clash z refl; over = refl };
       };
-      waits = fresh-waits;
-      unused = fresh-unused;
+      reads = reads;
     }
   where
     fresh-other : (i : ℕ) → freshAccount .readers (suc i) ≡ nobody
@@ -158,7 +142,7 @@ fresh-all =
         subst₂ (λ (r : Reader) (s : Slot). Reads r s (snapAt fresh (suc i))) (sym (fresh-other i)) (sym (free-everywhere (slotCount - 1) i noSlot))
         (record { lives = refl; due = refl; guards = new-shut; epoch = refl; snapshot = free-everywhere slotCount (suc i) 0 })
 
-pub all-told : (ks : List Call) → All (told callRule ks .world) (told callRule ks .account)
+pub all-told : (ks : List Call) → Tie (told callRule ks .world) (told callRule ks .account)
 all-told ks = all-telling ks (record { world = freshWorld; account = freshAccount }) fresh-all
 
 -- ---- what it says
@@ -167,7 +151,7 @@ pub admitted-zero : (v : Verdict) (s : Signs) (n : ℕ) → smallest s ≡ v →
 admitted-zero Admitted s n e z = refl
 admitted-zero (Refused x) s n e z = absurd (let m = refused-mild s x e in omega arith)
 
-module _ {w : World} {a : Account} (h : All w a) where
+module _ {w : World} {a : Account} (h : Tie w a) where
   abbrev c : Control
   c = w .state .control
 
@@ -175,14 +159,14 @@ module _ {w : World} {a : Account} (h : All w a) where
 
   module _ (i j : ℕ) (o : a .readers i .guards j ≡ true) where
     open-here : isOpen (slotAt (w .state) i .guards) j ≡ true
-    open-here = h .tie .reads i .guards j ∙ o
+    open-here = h .reads i .guards j ∙ o
 
     pub owner : a .readers i .lives ≡ true
-    owner = sym (h .tie .reads i .lives) ∙ guard-inside (h .tie .inv .each i .shape) j open-here .0
+    owner = sym (h .reads i .lives) ∙ guard-inside (h .inv .each i .shape) j open-here .0
 
     owner-in : i < slotCount
     owner-in = under i slotCount (λ lt. lt)
-        (λ le. clash (h .tie .reads i .lives ∙ owner) (ap (λ (x : Slot). x .used) (List·getD-eq-default (w .state .slots) noSlot (let z = h .tie .sound .slots in omega arith))))
+        (λ le. clash (h .reads i .lives ∙ owner) (ap (λ (x : Slot). x .used) (List·getD-eq-default (w .state .slots) noSlot (let z = h .sound .slots in omega arith))))
 
     not-both : (eqb i 0 && busy a || false) ≡ false
     not-both = go (eqb i 0) (busy a) refl refl
@@ -192,8 +176,8 @@ module _ {w : World} {a : Account} (h : All w a) where
         go true false p q = refl
         go true true p q =
             let e = eqb-true i 0 p in
-            let u = sym (busy-is a c (h .tie .steers) (whole (h .tie))) ∙ q in
-            absurd (all-shut (slotAt (w .state) 0 .guards) (h .tie .inv .own u .alone) j (subst (λ (k : ℕ). isOpen (slotAt (w .state) k .guards) j ≡ true) e open-here))
+            let u = sym (busy-is a c (h .steers) (whole h)) ∙ q in
+            absurd (all-shut (slotAt (w .state) 0 .guards) (h .inv .own u .alone) j (subst (λ (k : ℕ). isOpen (slotAt (w .state) k .guards) j ≡ true) e open-here))
 
     pub can-look : (key : ℕ) → wanted a (On i (LookUp j key)) ≡ 0
     unfolding wanted
@@ -211,10 +195,10 @@ module _ {w : World} {a : Account} (h : All w a) where
       let lt = owner-in i j p in
       let s = slotAt (w .state) i in
       let signs = handleSigns c (eqb i 0) s (LookUp j 0) in
-      let want = wanted-on a c (h .tie .steers) (whole (h .tie)) i lt s (snapAt (w .state) i) (h .tie .reads i) (h .tie .inv .each i .shape) (LookUp j 0) in
+      let want = wanted-on a c (h .steers) (whole h) i lt s (snapAt (w .state) i) (h .reads i) (h .inv .each i .shape) (LookUp j 0) in
       let v = admitted-zero (smallest signs) signs 0 refl (sym want ∙ can-look i j p 0) in
-      through (judged c (w .left) (w .right) (w .log)) (ltb i slotCount) (smallest signs) (sound-judged (h .tie .sound)) (lt-ltb i slotCount lt) v
-      ∙ h .tie .inv .each i .shows j (open-here i j p)
+      through (judged c (w .left) (w .right) (w .log)) (ltb i slotCount) (smallest signs) (sound-judged (h .sound)) (lt-ltb i slotCount lt) v
+      ∙ h .inv .each i .shows j (open-here i j p)
     where
       through : (v : Verdict) (b : Bool) (u : Verdict) → v ≡ Admitted → b ≡ true → u ≡ Admitted →
           _≡_ {A = List ℕ}
@@ -244,7 +228,7 @@ module _ {w : World} {a : Account} (h : All w a) where
       (λ _.
       by (λ (x : List ℕ). x ≡ []) (ltb i slotCount)
       (λ _.
-      judging (λ (x : List ℕ). x ≡ []) (smallest signs) (λ v. clash (sym (h .tie .reads i .guards j) ∙ not-false _ (admitted-unopposed signs v .guard)) p)
+      judging (λ (x : List ℕ). x ≡ []) (smallest signs) (λ v. clash (sym (h .reads i .guards j) ∙ not-false _ (admitted-unopposed signs v .guard)) p)
       (λ x _. refl))
       (λ _. refl))
       (λ x _. refl)
@@ -273,17 +257,17 @@ module _ {w : World} {a : Account} (h : All w a) where
   all-gone : a .gone ≡ true → HandsOver (record { world = w; account = a })
   all-gone g =
       let t = seenOf a in
-      let e = gone-is (c .phase) (h .tie .steers .stands .over ∙ g) in
-      let side = sym (h .tie .steers .side) in
+      let e = gone-is (c .phase) (h .steers .stands .over ∙ g) in
+      let side = sym (h .steers .side) in
       let (acc, none) = gone-stage (subst
       (λ (p : Phase). Stage p (c .job) (c .second) (c .swapped) (opsOf w) (readCopy w) (writeCopy w) (t .accepted) (t .published) (c .first))
-      e (h .tie .inv .stage)) in
+      e (h .inv .stage)) in
       record {
-        all = ap (λ (b : Bool). copyOf b (w .left) (w .right)) side ∙ h .tie .inv .read ∙ ap (λ (x : List Op). after x empty) (sym acc);
+        all = ap (λ (b : Bool). copyOf b (w .left) (w .right)) side ∙ h .inv .read ∙ ap (λ (x : List Op). after x empty) (sym acc);
         other = ap (λ (b : Bool). copyOf (not b) (w .left) (w .right)) side ∙ none;
-        log = h .tie .inv .spent (ap isGone e);
+        log = h .inv .spent (ap isGone e);
         alone = λ i j.
-            split (a .readers i .guards j) (λ o. absurd (gone-shut (h .waits) (h .tie .sound .slots) e i j (h .tie .reads i .guards j ∙ o))) (λ o. o);
+            split (a .readers i .guards j) (λ o. absurd (gone-shut (h .sound) (h .inv) e i j (h .reads i .guards j ∙ o))) (λ o. o);
       }
 
   idle-or-gone : (p : Phase) → underway p ≡ false → (p ≡ Idle) ⊎ (p ≡ Gone)
@@ -307,27 +291,27 @@ module _ {w : World} {a : Account} (h : All w a) where
   unused-log n x le =
       ⊎-elim
       (λ p.
-      let t = subst (λ (q : Phase). Stands (c .length) (c .swapped) (a .store .inLog) (a .store .swapIndex) (a .trial) (a .gone) q) p (h .tie .steers .stands) in
-      h .unused .log x (omega (arith, t .log .0)))
-      (λ p. ap (λ (g : List ℕ). getD g x 0) (h .tie .inv .spent (ap isGone p)) ∙ free-everywhere logWords x 0)
-      (idle-or-gone (c .phase) (sym (busy-is a c (h .tie .steers) (whole (h .tie))) ∙ n))
+      let t = subst (λ (q : Phase). Stands (c .length) (c .swapped) (a .store .inLog) (a .store .swapIndex) (a .trial) (a .gone) q) p (h .steers .stands) in
+      h .inv .unused .log x (omega (arith, t .log .0)))
+      (λ p. ap (λ (g : List ℕ). getD g x 0) (h .inv .spent (ap isGone p)) ∙ free-everywhere logWords x 0)
+      (idle-or-gone (c .phase) (sym (busy-is a c (h .steers) (whole h)) ∙ n))
 
   all-unused : UnusedIn (record { world = w; account = a })
-  all-unused = record { left = h .unused .left; right = h .unused .right; log = unused-log }
+  all-unused = record { left = h .inv .unused .left; right = h .inv .unused .right; log = unused-log }
 
 -- a run is its steps
-all-runs : {w : World} {a : Account} → All w a → (let r = reply callRule Run w in Runs callRule (record { world = w; account = a }) (valueOf r) (answerOf r) (next callRule Run w))
+all-runs : {w : World} {a : Account} → Tie w a → (let r = reply callRule Run w in Runs callRule (record { world = w; account = a }) (valueOf r) (answerOf r) (next callRule Run w))
 all-runs {w} {a} h =
     let v = valueOf (reply callRule Run w) in
-    let x = run-is-steps-sound w (h .tie .sound) in
+    let x = run-is-steps-sound w (h .sound) in
     let k = all-steps v w a h (x .made) in
     record {
       made = x .made;
-      ended = λ z. let e = x .ended z in (e .0, e .1, busy-is (ran v a) (steppedWorld callRule v w .state .control) (k .tie .steers) (whole (k .tie)) ∙ e .2);
+      ended = λ z. let e = x .ended z in (e .0, e .1, busy-is (ran v a) (steppedWorld callRule v w .state .control) (k .steers) (whole k) ∙ e .2);
       halted = λ z.
           let s = x .stopped z in
-          let now = busy-is (ran v a) (steppedWorld callRule v w .state .control) (k .tie .steers) (whole (k .tie)) in
-          (s .0, s .1, now ∙ s .2 ∙ sym (busy-is a (w .state .control) (h .tie .steers) (whole (h .tie))));
+          let now = busy-is (ran v a) (steppedWorld callRule v w .state .control) (k .steers) (whole k) in
+          (s .0, s .1, now ∙ s .2 ∙ sym (busy-is a (w .state .control) (h .steers) (whole h)));
     }
 
 pub demands : Demands callRule

@@ -23,7 +23,7 @@ use Rattle.read.specs.Handles.{smallest, freed, bit}
 use Rattle.read.specs.Calls.{Lent, lent, slotAt}
 use Rattle.write.specs.declared.Moved.{Moved}
 use Rattle.write.specs.declared.Call.the-variants.{Step}
-use Rattle.write.specs.Steps.{holds, seen, place, pollMove, lastPollMove, stepAt}
+use Rattle.write.specs.Steps.{holds, seen as sees, place, pollMove, lastPollMove, stepAt}
 use Rattle.write.specs.Begins.{stepSigns}
 use Rattle.write.specs.Scans.{polls}
 use Rattle.write.specs.Runs.{snapAt, lift, stepOn}
@@ -34,10 +34,11 @@ use Rattle.write.proofs.Control.{Fits, fits, some-slot, whole-step}
 use Rattle.read.specs.declared.Verdict.the-variants.{Admitted}
 use Rattle.write.proofs.Left.{outcome, step-answer, Stepped, done, held, declined, declinedMove, step-stepped, step-value}
 use Rattle.write.specs.World.{World, worldOf, reply}
-use Rattle.demands.specs.Account.{Reader, Account, Move, begin, poll, copy, apply, swap, snap, null, lock, finish, withAt, readsEpoch, dropped, withPlan, makes, advanced, noted}
+use Rattle.demands.specs.Account.{Reader, Account, Move, null, withAt, ofReader, readsEpoch, dropped, withPlan, makes, advanced, noted}
 use Rattle.demands.specs.Table.{least, meets, meetsReader, wanted, wantedValue, worth}
+use Rattle.demands.proofs.account.Moves.{isSwap, each-move}
 use Rattle.demands.proofs.shown.Guards.{at-set, same-at, other-at}
-use Rattle.demands.proofs.shown.Invariant.{seenOf, afterMove, Inv}
+use Rattle.demands.proofs.shown.Invariant.{seen, seenOf, afterMove, Inv}
 use Rattle.demands.proofs.shown.Steps.{Next, stepOn-keeps}
 use Rattle.demands.proofs.account.Plan.{moveOf, plan, plan-head, step-plan, not-made}
 use Rattle.demands.proofs.account.Control.{SteersOf, Stands, isTryJob, isLast, step-steers}
@@ -68,30 +69,18 @@ module _ (a : Account) (st : State) (rd : ReadsAll a st) where
 
 -- what the invariant looks at in the account, after a step
 moved-seen : (x : Move) (a : Account) → seenOf (makes x a) ≡ afterMove x (seenOf a)
-moved-seen begin a = refl
-moved-seen (poll i) a = refl
-moved-seen copy a = refl
-moved-seen apply a = refl
-moved-seen swap a = refl
-moved-seen (snap i) a =
-    λ z. record {
-      accepted = a .store .accepted;
-      atBegin = a .store .atBegin;
-      published = a .store .published;
-      loaded = λ k. same-loaded (a .readers) i (readsEpoch (a .readers i)) (snapped-loaded (a .readers i)) k z;
-    }
+moved-seen x a =
+    each-move (λ b. seenOf b ≡ afterMove x (seenOf a)) a x
+    (λ p _ _. record { same = sym (stays p); copied = sym (stays p); nulled = sym (stays p) })
+    (λ q. sym (ap (λ (y : Move). afterMove y (seenOf a)) q))
+    (λ i q. loads i (readsEpoch (a .readers i)) (by (λ (s : Reader). s .loaded ≡ a .readers i .loaded) (a .readers i .lives) (λ _. refl) (λ _. refl)) ∙ sym (stays (ap isSwap q)))
+    (λ q. loads 0 (dropped (a .readers 0)) refl ∙ sym (stays (ap isSwap q)))
   where
-    snapped-loaded : (r : Reader) → readsEpoch r .loaded ≡ r .loaded
-    snapped-loaded r = by (λ (s : Reader). s .loaded ≡ r .loaded) (r .lives) (λ _. refl) (λ _. refl)
-moved-seen null a = refl
-moved-seen lock a = refl
-moved-seen finish a =
-    λ z. record {
-      accepted = a .store .accepted;
-      atBegin = a .store .atBegin;
-      published = a .store .published;
-      loaded = λ k. same-loaded (a .readers) 0 (dropped (a .readers 0)) refl k z;
-    }
+    stays : isSwap x ≡ false → afterMove x (seenOf a) ≡ seenOf a
+    stays p = ap (λ (b : Bool). elim b [ true ↦ seen (a .store .accepted) (a .store .atBegin) (a .store .atBegin) (λ i. a .readers i .loaded) | false ↦ seenOf a ]) p
+
+    loads : (i : ℕ) (r : Reader) → r .loaded ≡ a .readers i .loaded → seenOf (ofReader i (λ _. r) a) ≡ seenOf a
+    loads i r e = λ z. seen (a .store .accepted) (a .store .atBegin) (a .store .published) (λ k. same-loaded (a .readers) i r e k z)
 
 -- a step that ends the call is the last of the plan
 last-step : (xs : List Move) → leb (suc (length xs)) 1 ≡ not (isBusy xs)
@@ -129,15 +118,15 @@ module _ {w : World} {a : Account} (tie : Tie w a) where
   -- slot k's snapshot
   reads-snapped : (k : ℕ) → k < slotCount → (i : ℕ) →
       Reads (withAt k (readsEpoch (a .readers k)) (a .readers) i) (getD (set (st .slots) k (slotAt st k)) i noSlot)
-      (getD (set (st .snapshots) k (seen (slotAt st k) (snapAt st k))) i 0)
+      (getD (set (st .snapshots) k (sees (slotAt st k) (snapAt st k))) i 0)
   reads-snapped k b =
       subst
       (λ (ss : List Slot). (i : ℕ) → Reads (withAt k (readsEpoch (a .readers k)) (a .readers) i) (getD ss i noSlot)
-      (getD (set (st .snapshots) k (seen (slotAt st k) (snapAt st k))) i 0))
+      (getD (set (st .snapshots) k (sees (slotAt st k) (snapAt st k))) i 0))
       (sym (set-getD (st .slots) k noSlot))
-      (at-set (λ i y. Reads (withAt k (readsEpoch (a .readers k)) (a .readers) i) (slotAt st i) y) (st .snapshots) k (seen (slotAt st k) (snapAt st k)) 0
+      (at-set (λ i y. Reads (withAt k (readsEpoch (a .readers k)) (a .readers) i) (slotAt st i) y) (st .snapshots) k (sees (slotAt st k) (snapAt st k)) 0
       (let z = tie .sound .snapshots in omega arith)
-      (subst (λ (r : Reader). Reads r (slotAt st k) (seen (slotAt st k) (snapAt st k))) (sym (same-at k (readsEpoch (a .readers k)) (a .readers))) (seen-reads (tie .reads k)))
+      (subst (λ (r : Reader). Reads r (slotAt st k) (sees (slotAt st k) (snapAt st k))) (sym (same-at k (readsEpoch (a .readers k)) (a .readers))) (seen-reads (tie .reads k)))
       (λ i ne. subst (λ (r : Reader). Reads r (slotAt st i) (snapAt st i)) (sym (other-at k (readsEpoch (a .readers k)) (a .readers) i ne)) (tie .reads i)))
 
   -- slot 0 is freed

@@ -37,8 +37,8 @@ use Rattle.demands.proofs.shown.Invariant.{Stage, early, late, opsFrom,
 use Rattle.demands.proofs.account.Moves.{isSwap, isFinish, each-move, advanced-rest, advanced-trial, ran-keeps}
 use Rattle.demands.proofs.account.Control.{Stands}
 use Rattle.demands.proofs.account.Rows.{isBusy, idle-step, declined-tries, writes-idle, busy-is}
-use Rattle.demands.proofs.account.Calls.{whole}
-use Rattle.demands.proofs.account.Demands.{All, right, all-call, all-steps, all-tell, all-told, can-look}
+use Rattle.demands.proofs.account.Calls.{Tie, whole}
+use Rattle.demands.proofs.account.Demands.{right, all-call, all-steps, all-tell, all-told, can-look}
 use Rattle.demands.proofs.delay.RunIsSteps.{run-is-steps-sound}
 use Rattle.demands.proofs.delay.Always.{always}
 use Rattle.demands.proofs.delay.Named.{begins-idle, makes-step, named}
@@ -95,7 +95,7 @@ stopped-goes k a b o n q le d f =
     (λ z. let e = eqb-true (answerOf o) 14 z in declines e (ap (λ (x : Bool). busy (ended-as b x)) z) (f e))
     (λ z. forth (eqb-false (answerOf o) 14 z) (omega arith) (ap (λ (x : Bool). ended-as b x .plan) z ∙ d ∙ ap (λ (i : ℕ). drop i (a .plan)) (sym q)))
 
-module _ {w : World} {a : Account} (h : All w a) where
+module _ {w : World} {a : Account} (h : Tie w a) where
   abbrev c : Control
   c = w .state .control
 
@@ -122,12 +122,12 @@ module _ {w : World} {a : Account} (h : All w a) where
           stopped-goes Step a (made (answerOf (reply callRule Step w))) (reply callRule Step w) 0
           (ap bit (ne-eqb (answerOf (reply callRule Step w)) 0 (λ z. omega arith))) (omega arith) (ap (λ (n : ℕ). made n .plan) e) step-tries
 
-ran-within : (n : ℕ) (w : World) (a : Account) → All w a → ((j : ℕ) → j < n → answerOf (reply callRule Step (steppedWorld callRule j w)) ≡ 0) →
+ran-within : (n : ℕ) (w : World) (a : Account) → Tie w a → ((j : ℕ) → j < n → answerOf (reply callRule Step (steppedWorld callRule j w)) ≡ 0) →
     n ≤ length (a .plan)
 ran-within zero w a h made = omega arith
 ran-within (suc n) w a h made =
     let z = made 0 (omega arith) in
-    let b = subst (λ (x : ℕ). All (next callRule Step w) (noted Step x (valueOf (reply callRule Step w)) a)) z (all-call h Step refl) in
+    let b = subst (λ (x : ℕ). Tie (next callRule Step w) (noted Step x (valueOf (reply callRule Step w)) a)) z (all-call h Step refl) in
     let r = ran-within n (next callRule Step w) (advanced (a .plan) a) b (λ j lt. made (suc j) (omega arith)) in
     omega (arith, r, some-left (a .plan) (step-busy h z), ap length (step-rest a), length-drop 1 (a .plan))
 
@@ -175,7 +175,7 @@ module _ (o : Opening) (ops : List Op) where
 
 -- ---- a call of another kind, while one is under way
 
-module _ {w : World} {a : Account} (h : All w a) (u : busy a ≡ true) where
+module _ {w : World} {a : Account} (h : Tie w a) (u : busy a ≡ true) where
   -- no call of the writer but step and run is accepted
   append-refused : (kind key amount : ℕ) → answerOf (reply callRule (Append kind key amount) w) ≢ 0
   append-refused kind key amount z = clash u (writes-idle a (Append kind key amount) refl (sym (right h (Append kind key amount) refl .answer) ∙ z))
@@ -223,7 +223,7 @@ module _ {w : World} {a : Account} (h : All w a) (u : busy a ≡ true) where
   goes Step = step-goes h u
   goes Run =
       let v = valueOf (reply callRule Run w) in
-      let runs = run-is-steps-sound w (h .tie .sound) in
+      let runs = run-is-steps-sound w (h .sound) in
       stopped-goes Run a (ran v a) (reply callRule Run w) v refl (ran-within v w a h (runs .made)) (ran-rest v a)
       (λ z. sym (ran-trial v a) ∙ step-tries (all-steps v w a h (runs .made)) (runs .stopped (λ y. omega arith) .0 ∙ z))
 
@@ -257,7 +257,7 @@ module _ (o : Opening) (t : Store) where
     rest : ms ≡ drop (made - 1) whole-plan
 
   data Along (x : Course) : Type 0 where
-    onway : All (x .now .world) (x .now .account) → x .declined ≡ false → Count (x .count) (x .now .account .plan) → Keeps o ops (x .now .account) → Along x
+    onway : Tie (x .now .world) (x .now .account) → x .declined ≡ false → Count (x .count) (x .now .account .plan) → Keeps o ops (x .now .account) → Along x
     ended : x .declined ≡ true → busy (x .now .account) ≡ false → isTry o ≡ true → Along x
 
   left-length : {made : ℕ} {ms : List Move} → Count made ms → length ms ≡ length whole-plan - (made - 1)
@@ -333,7 +333,7 @@ swap-left (x ∷ xs) ys e = go (isSwap x) (swap-left xs ys) e
 
 -- ---- a call that begins
 
-module _ {w : World} {a : Account} (h : All w a) (o : Opening) (z : wanted a (Open o) ≡ 0) where
+module _ {w : World} {a : Account} (h : Tie w a) (o : Opening) (z : wanted a (Open o) ≡ 0) where
   abbrev s : Store
   s = a .store
 
@@ -341,18 +341,18 @@ module _ {w : World} {a : Account} (h : All w a) (o : Opening) (z : wanted a (Op
   idle = begins-idle h o z
 
   known : Stands (c h .length) (c h .swapped) (s .inLog) (s .swapIndex) (a .trial) (a .gone) Idle
-  known = subst (λ (p : Phase). Stands (c h .length) (c h .swapped) (s .inLog) (s .swapIndex) (a .trial) (a .gone) p) idle (h .tie .steers .stands)
+  known = subst (λ (p : Phase). Stands (c h .length) (c h .swapped) (s .inLog) (s .swapIndex) (a .trial) (a .gone) p) idle (h .steers .stands)
 
   -- with nothing in the log, all that was accepted is published
   all-published : unswapped s ≡ false → s .inLog ≡ 0 → s .published ≡ s .accepted
-  all-published f l = sym (go (h .tie .inv .stage))
+  all-published f l = sym (go (h .inv .stage))
     where
       none : opsOf w ≡ []
       none = ap (λ (n : ℕ). opsFrom n 0 (w .log)) (known .log .0 ∙ l)
 
       go : Stage (c h .phase) (c h .job) (c h .second) (c h .swapped) (opsOf w) (readCopy w) (writeCopy w) (s .accepted) (s .published) (c h .first) →
           s .accepted ≡ s .published
-      go (early e x) = clash e (h .tie .steers .first ∙ f)
+      go (early e x) = clash e (h .steers .first ∙ f)
       go (late e x) =
           x .behind ∙ ap (λ (os : List Op). s .published ++ drop (c h .swapped) os) none
           ∙ ap (λ (os : List Op). s .published ++ os) (drop-nil (c h .swapped)) ∙ append-nil (s .published)
@@ -392,7 +392,7 @@ module _ {w : World} {a : Account} (h : All w a) (o : Opening) (z : wanted a (Op
       let v = valueOf (reply callRule (Open o) w) in
       subst (λ (n : ℕ). busy (noted (Open o) n v a) ≡ true → P (noted (Open o) n v a)) (sym (right h (Open o) refl .answer ∙ z))
       (by (λ (b : Account). busy b ≡ true → P b) (is 11 (Open o) && not (eqb v 1))
-      (λ _ u. clash u (busy-is a (c h) (h .tie .steers) (whole (h .tie)) ∙ ap underway idle)) (λ _ _. x))
+      (λ _ u. clash u (busy-is a (c h) (h .steers) (whole h) ∙ ap underway idle)) (λ _ _. x))
 
 ends : (ks : List Call) (o : Opening) → (let t = told callRule ks in let u = tell callRule (Open o) t in
     wanted (t .account) (Open o) ≡ 0 → busy (u .account) ≡ true →
@@ -425,6 +425,6 @@ follows =
       named = λ ks i ms q s. named (all-told ks) i ms q s;
       goes = λ ks u n. makes-step (all-told ks) u n;
       ends = ends;
-      epochs = λ ks i lt. let r = all-told ks .tie .reads i in (r .lives, r .epoch, r .snapshot);
-      side = λ ks. all-told ks .tie .steers .side;
+      epochs = λ ks i lt. let r = all-told ks .reads i in (r .lives, r .epoch, r .snapshot);
+      side = λ ks. all-told ks .steers .side;
     }

@@ -33,14 +33,14 @@ use Rattle.demands.proofs.shown.Guards.{open-below}
 use Rattle.demands.proofs.delay.Always.{delaying}
 use Rattle.demands.proofs.account.Rows.{busy-is, row}
 use Rattle.demands.proofs.account.Answers.{wanted-open}
-use Rattle.demands.proofs.account.Calls.{whole}
-use Rattle.demands.proofs.account.Demands.{All, admitted-zero}
+use Rattle.demands.proofs.account.Calls.{Tie, whole}
+use Rattle.demands.proofs.account.Demands.{admitted-zero}
 use Rattle.demands.proofs.Phases.{underway-stays}
 use Rattle.demands.proofs.Booleans.{clash}
 
 -- ---- the rules
 
-module _ {w : World} {a : Account} (h : All w a) where
+module _ {w : World} {a : Account} (h : Tie w a) where
   abbrev c : Control
   c = w .state .control
 
@@ -50,14 +50,14 @@ module _ {w : World} {a : Account} (h : All w a) where
       let signs = writerSigns (columnOf o) false false c s in
       open-idle o c s
       (admitted-zero (smallest signs) signs 0 refl
-      (sym (wanted-open a c (h .tie .steers) (whole (h .tie)) s (snapAt (w .state) 0) (h .tie .reads 0) o) ∙ z))
+      (sym (wanted-open a c (h .steers) (whole h) s (snapAt (w .state) 0) (h .reads 0) o) ∙ z))
 
   -- ---- progress
 
   pub makes-step : busy a ≡ true → meetsReader a ≡ false → wanted a Step ≡ 0
   unfolding wanted
   makes-step u n =
-      let g : a .gone ≡ false = sym (h .tie .steers .stands .over) ∙ underway-stays (c .phase) (sym (busy-is a c (h .tie .steers) (whole (h .tie))) ∙ u) in
+      let g : a .gone ≡ false = sym (h .steers .stands .over) ∙ underway-stays (c .phase) (sym (busy-is a c (h .steers) (whole h)) ∙ u) in
       λ z. least (row 3 (g z) ∷ row 4 false ∷ row 5 false ∷ row 6 (not (u z) || false) ∷ row 13 (n z && not (a .trial)) ∷ row 14 (n z && a .trial) ∷ row 15 false ∷ [])
 
   -- ---- only a reader that can be named
@@ -77,26 +77,26 @@ module _ {w : World} {a : Account} (h : All w a) where
         eq-eqb (x .epoch % 2) 1 (ap (λ (n : ℕ). n % 2) (e ∙ sym (d .same)) ∙ (let v : r .snapshot % 2 ^ 64 % 2 ≡ r .snapshot % 2 = omega arith in v ∙ z))
 
     odd-slot : odd (slotAt (w .state) i .epoch) ≡ true
-    odd-slot = odd-epoch (slotAt (w .state) i) (h .tie .reads i .epoch)
+    odd-slot = odd-epoch (slotAt (w .state) i) (h .reads i .epoch)
 
     busy-here : busy a ≡ true
     busy-here = ap (λ (x : List Move). elim x [ [] ↦ false | y ∷ ys ↦ true ]) q
 
     under-way : underway (c .phase) ≡ true
-    under-way = sym (busy-is a c (h .tie .steers) (whole (h .tie))) ∙ busy-here
+    under-way = sym (busy-is a c (h .steers) (whole h)) ∙ busy-here
 
     in-range : i < slotCount
     in-range = under i slotCount (λ lt. lt)
-        (λ le. clash (h .tie .reads i .lives ∙ alive) (ap (λ (x : Slot). x .used) (List·getD-eq-default (w .state .slots) noSlot (let z = h .tie .sound .slots in omega arith))))
+        (λ le. clash (h .reads i .lives ∙ alive) (ap (λ (x : Slot). x .used) (List·getD-eq-default (w .state .slots) noSlot (let z = h .sound .slots in omega arith))))
 
     not-own : i ≢ 0
     not-own e =
-        let qu = h .tie .inv .own under-way in
-        clash (subst (λ (k : ℕ). odd (slotAt (w .state) k .epoch) ≡ true) e odd-slot) (at-rest (h .tie .inv .each 0 .shape) (qu .idle) (qu .alone))
+        let qu = h .inv .own under-way in
+        clash (subst (λ (k : ℕ). odd (slotAt (w .state) k .epoch) ≡ true) e odd-slot) (at-rest (h .inv .each 0 .shape) (qu .idle) (qu .alone))
 
     here : (inside r || isDue (r .due)) ≡ true
     here =
-        (λ z. sym (is-inside (h .tie .reads i)) z || isDue (sym (h .tie .reads i .due) z)) ∙ by-shape (h .tie .inv .each i .shape)
+        (λ z. sym (is-inside (h .reads i)) z || isDue (sym (h .reads i .due) z)) ∙ by-shape (h .inv .each i .shape)
       where
         by-shape : Shape (slotAt (w .state) i) → (anyOpen (slotAt (w .state) i .guards) || isDue (slotAt (w .state) i .due)) ≡ true
         by-shape (outside x y z) = clash odd-slot x
@@ -113,7 +113,7 @@ module _ {w : World} {a : Account} (h : All w a) where
     can-release : (j : ℕ) → r .guards j ≡ true → wanted a (On i (Release j)) ≡ 0
     unfolding wanted
     can-release j o =
-        let lt : j < guardCount = open-below (slotAt (w .state) i .guards) j (h .tie .reads i .guards j ∙ o) in
+        let lt : j < guardCount = open-below (slotAt (w .state) i .guards) j (h .reads i .guards j ∙ o) in
         let p4 = slot-there in
         let p6 = not-held in
         let p9 : not (ltb j guardCount && r .guards j) ≡ false = λ z. not (lt-ltb j guardCount lt z && o z) in

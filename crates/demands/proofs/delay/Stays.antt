@@ -32,8 +32,8 @@ use Rattle.write.specs.Numbers.{is, isRun}
 use Rattle.demands.proofs.shown.Guards.{open-below, same-at, other-at}
 use Rattle.demands.proofs.account.Moves.{no-move, ran-keeps}
 use Rattle.demands.proofs.account.Answers.{wanted-create}
-use Rattle.demands.proofs.account.Calls.{whole}
-use Rattle.demands.proofs.account.Demands.{All, admitted-zero, right, owner}
+use Rattle.demands.proofs.account.Calls.{Tie, whole}
+use Rattle.demands.proofs.account.Demands.{admitted-zero, right, owner}
 use Rattle.demands.proofs.Booleans.{clash}
 
 module _ (j : ℕ) where
@@ -131,7 +131,7 @@ module _ (j : ℕ) where
 
 -- ---- of the rules
 
-module _ {w : World} {a : Account} (h : All w a) (i j : ℕ) where
+module _ {w : World} {a : Account} (h : Tie w a) (i j : ℕ) where
   abbrev c : Control
   c = w .state .control
 
@@ -146,7 +146,7 @@ module _ {w : World} {a : Account} (h : All w a) (i j : ℕ) where
       let f = seek (λ k. not (a .readers k .lives)) 0 slotCount in
       let signs = createSigns c f in
       let v = admitted-zero (smallest signs) signs 0 refl
-      (sym (wanted-create a c (h .tie .steers) (whole (h .tie)) f refl) ∙ sym (right h Create refl .answer) ∙ z) in
+      (sym (wanted-create a c (h .steers) (whole h) f refl) ∙ sym (right h Create refl .answer) ∙ z) in
       let lt = leb-false slotCount f (admitted-unopposed signs v .slots) in
       subst (λ (x : ℕ). a .readers x .lives ≡ false) (sym (worth-is Create refl z)) (shut (a .readers f .lives) (seek-found (λ k. not (a .readers k .lives)) slotCount lt))
     where
@@ -163,7 +163,7 @@ module _ {w : World} {a : Account} (h : All w a) (i j : ℕ) where
   call-stays Create ne = create-stays (answerOf (reply callRule Create w)) (valueOf (reply callRule Create w)) free-slot
   call-stays (On k x) ne =
       at-stays j (a .readers) k _ i (λ e.
-      spoke-stays j (a .readers k) (λ o. open-below (slotAt (w .state) k .guards) j (h .tie .reads k .guards j ∙ o)) (a .store .published) x
+      spoke-stays j (a .readers k) (λ o. open-below (slotAt (w .state) k .guards) j (h .reads k .guards j ∙ o)) (a .store .published) x
       (λ q. ne (λ z. On (e z) (q z))) (a .taken) (answerOf (reply callRule (On k x) w)) (valueOf (reply callRule (On k x) w)) (worth-is (On k x) refl))
   call-stays (Append kind key amount) ne = append-stays j i kind key amount (answerOf (reply callRule (Append kind key amount) w)) (valueOf (reply callRule (Append kind key amount) w)) a
   call-stays (Open o) ne = open-stays j i o (answerOf (reply callRule (Open o) w)) (valueOf (reply callRule (Open o) w)) a

@@ -4,9 +4,8 @@ use mathlib.Core.Path.{_≡_, refl, sym, ap, _∙_, subst, subst₂}
 use mathlib.Core.Bool.{Bool, true, false, not}
 use mathlib.Core.List.{List, [], _∷_, _++_}
 use native.Mathlib.Omega.{arith}
-use native.Mathlib.Nat.{le-refl, le-of-eq}
 use native.Mathlib.Numerals.{add-one}
-use lib.ListN.{length, length-set}
+use lib.ListN.{length}
 use lib.Dec.{eqb}
 use borrow.Author.Tests.{eq-eqb, not-false}
 use Rattle.table.specs.Copy.{lawful}
@@ -32,12 +31,13 @@ use Rattle.write.proofs.Verdicts.{Unopposed}
 use Rattle.write.proofs.Control.{some-slot}
 use Rattle.write.specs.World.{World, worldOf}
 use Rattle.demands.proofs.Sides.{readCopy, writeCopy}
-use Rattle.demands.proofs.shown.Invariant.{Seen, Quiet, Stage, Inv, opsFrom, opsOf, clearedAt, cleared, snapped}
-use Rattle.demands.proofs.shown.Slot.{twice-view, weaken}
+use Rattle.demands.proofs.shown.Invariant.{Seen, Quiet, Stage, Inv, opsFrom, opsOf, reachAt, firstly, orAll}
+use Rattle.demands.proofs.shown.Slot.{within-same, twice-view, weaken}
+use Rattle.demands.proofs.shown.Unused.{clear-operated, clear-logged}
 use Rattle.demands.proofs.shown.Log.{length-ops, ops-logged}
-use Rattle.demands.proofs.shown.Stages.{Begins, begins-polling, begins-beginning, begins-taking, all-cleared, stage-polling, stage-beginning, begin-stage, take-stage, log-stage, apply-stage}
+use Rattle.demands.proofs.shown.Stages.{Begins, begins-polling, begins-beginning, begins-taking, stage-polling, stage-beginning, begin-stage, take-stage, log-stage, apply-stage}
 use Rattle.demands.proofs.shown.Lifts.{ctl, withControl, slotBack, snapBack, StageIn, snap-back, both-back, slot-keeps, control-keeps, write-keeps}
-use Rattle.demands.proofs.Sound.{SoundIn}
+use Rattle.demands.proofs.Sound.{SoundIn, sound-slot}
 use Rattle.demands.proofs.shown.Steps.{fit-write}
 use Rattle.demands.proofs.Phases.{withJob, underway-stays}
 use Rattle.demands.proofs.Booleans.{clash, or-false}
@@ -95,12 +95,12 @@ module _ {w : World} {t : Seen} (sound : SoundIn w) (inv : Inv w t) where
           Inv (worldOf (lift 0 (w .state) (appendFirst kind key amount (ctl w) (slotAt (w .state) 0) (snapAt (w .state) 0) (w .left) (w .right) (w .log)))) grown
       first-keeps q law =
           let s = slotAt (w .state) 0 in
-          let h = slot-keeps (sound .slots) inv 0 some-slot (withDue ((s .epoch + 2) % 2 ^ 64) (s .due) s) (t .loaded) (λ k ne. refl) (λ _ u. not-underway u)
+          let h = slot-keeps sound inv 0 some-slot (withDue ((s .epoch + 2) % 2 ^ 64) (s .due) s) (t .loaded) (λ k ne. refl) (λ _ u. not-underway u)
           (twice-view (inv .each 0) (rest .quiet)) in
           snap-back 0 _
-          (write-keeps (length-set (w .state .slots) 0 _ ∙ sound .slots) h (operated kind key amount) (after (op ∷ []) (writeCopy w))
+          (write-keeps (sound-slot 0 _ sound) h (operated kind key amount) (after (op ∷ []) (writeCopy w))
           (ap (λ o. o .copy) (apply-made kind key amount (writeCopy w) (fit-fits (writeCopy w) (fit-write sound inv)) law))
-          (all-cleared (clearedAt (ctl w .phase)) q) (le-of-eq (all-cleared (clearedAt (ctl w .phase)) q)) (le-refl _)
+          (clear-operated kind key amount) (inv .unused .log) (ap (λ (f : Bool). orAll f (reachAt (ctl w .phase) .cleared)) q) (within-same refl)
           (λ u. not-underway u) (λ u. not-underway u)
           (subst
           (λ (p : Phase). Stage p (ctl w .job) (ctl w .second) (ctl w .swapped) (opsOf w) (readCopy w) (after (op ∷ []) (writeCopy w)) (t .accepted ++ (op ∷ [])) (t .published) (ctl w .first))
@@ -131,6 +131,7 @@ module _ {w : World} {t : Seen} (sound : SoundIn w) (inv : Inv w t) where
                 (λ (p : Phase) (os : List Op). Stage p (ctl w .job) (ctl w .second) (ctl w .swapped) os (readCopy w) (writeCopy w) (t .accepted ++ (op ∷ [])) (t .published) (ctl w .first))
                 (sym (rest .idle)) (sym ops)
                 (log-stage op q (omega (arith, sound .good .whole .within, length-ops n 0 (w .log))) (stage-idle (rest .idle)));
+            unused = record { left = inv .unused .left; right = inv .unused .right; log = clear-logged n kind key amount (w .log) (inv .unused .log) };
             spent = λ z. clash z (ap isGone (rest .idle));
           })
 
@@ -142,9 +143,8 @@ module _ {w : World} {t : Seen} (sound : SoundIn w) (inv : Inv w t) where
         {j : Job} {q : Phase} → Begins (ctl w) q → StageIn w t q j →
         Inv (snapBack 0 (slotBack 0 (withControl (at q (withJob j (ctl w))) w))) begins
     open-step b stg =
-        both-back 0 _ (control-keeps (sound .slots) inv
-        (λ i. weaken (inv .each i)
-        (le-of-eq (b .clear ∙ ap (cleared (ctl w .first)) (sym (rest .idle)))) (λ h. omega (arith, b .snap, ap snapped (rest .idle))))
+        both-back 0 _ (control-keeps sound inv
+        (λ i. weaken (inv .each i) (within-same (b .at ∙ ap (λ (p : Phase). firstly (ctl w .first) (reachAt p)) (sym (rest .idle))) i))
         (λ _. rest .quiet) (λ _. refl) (b .stays) stg)
 
     ln : length (opsOf w) ≡ ctl w .length

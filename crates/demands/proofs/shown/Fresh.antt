@@ -8,6 +8,7 @@ use Rattle.write.specs.World.{freshWorld}
 use Rattle.demands.specs.Account.{freshAccount}
 use Rattle.demands.proofs.shown.Invariant.{seenOf, outside, ViewOf, early, Inv}
 use Rattle.demands.proofs.shown.Guards.{odd-zero, none-open}
+use Rattle.demands.proofs.shown.Unused.{fresh-unused}
 use Rattle.demands.proofs.shown.Slot.{no-guards, new-view}
 use Rattle.demands.proofs.Booleans.{clash}
 
@@ -25,6 +26,7 @@ fresh-inv = record {
   read = refl;
   atBegin = λ u. clash u refl;
   stage = early refl (record { unsynced = refl; unlogged = refl; holds = refl });
+  unused = fresh-unused;
   spent = λ z. clash z refl;
 }
   where

@@ -16,11 +16,11 @@ use Rattle.read.specs.declared.Phase.the-variants.{Idle, Begin, Poll, Copy, Dra
 use Rattle.read.specs.declared.Job.{Job}
 use Rattle.read.specs.declared.Job.the-variants.{Publish, Try, TakeFirst, TakeSecond}
 use Rattle.read.specs.declared.Control.{Control}
-use Rattle.read.specs.Machine.{slotCount, isGone}
+use Rattle.read.specs.Machine.{slotCount, isGone, nulls}
 use Rattle.write.specs.Steps.{keeping, draining, polled, polling, beginning, published, nextJob, lastPolling, lastSnapping, snapping}
 use Rattle.write.specs.Begins.{taking}
 use Rattle.write.proofs.Cases.{by, below, keeping-cases, draining-cases, polled-cases, polling-cases, beginning-cases, lastPolling-cases, lastSnapping-cases, snapping-cases}
-use Rattle.demands.proofs.shown.Invariant.{Stage, First, Early, early, late, Lacks, isSecond, clearedAt, orAll, cleared, snapped}
+use Rattle.demands.proofs.shown.Invariant.{Stage, First, Early, early, late, Lacks, isSecond, Reach, reach, before, reachAt, firstly}
 use Rattle.demands.proofs.shown.Log.{noOp}
 use Rattle.demands.proofs.Booleans.{clash, or-false}
 
@@ -32,88 +32,110 @@ no-ops : (os : List Op) → length os ≡ 0 → os ≡ []
 no-ops [] e = refl
 no-ops (o ∷ os) e = absurd (omega arith)
 
--- ---- how many slots are cleared and snapped where the writer goes on, which is not behind take's finish
+-- ---- how far the writer has come where it goes on, which is not behind take's finish
 
-pub record Stands (cl sc : ℕ) (p : Phase) : Type 0 where
-  pub clear : clearedAt p ≡ cl
-  pub snap : snapped p ≡ sc
+pub record Stands (h : Reach) (p : Phase) : Type 0 where
+  pub at : reachAt p ≡ h
   pub stays : isGone p ≡ false
 
-pub here : (cl sc : ℕ) {p : Phase} → clearedAt p ≡ cl → snapped p ≡ sc → isGone p ≡ false → Stands cl sc p
-here cl sc a b e = record { clear = a; snap = b; stays = e }
+pub here : {p : Phase} → isGone p ≡ false → Stands (reachAt p) p
+here e = record { at = refl; stays = e }
 
-pub stands-keeping : (n k : ℕ) → Stands slotCount slotCount (keeping n k)
-stands-keeping n k = keeping-cases (Stands slotCount slotCount) n k (λ _. here _ _ refl refl refl) (λ _. here _ _ refl refl refl)
+-- the same reach, otherwise said
+thus : {a b : Reach} {p : Phase} → a ≡ b → Stands a p → Stands b p
+thus e h = record { at = h .at ∙ e; stays = h .stays }
 
-pub stands-draining : (s n : ℕ) → Stands slotCount slotCount (draining s n)
-stands-draining s n = draining-cases (Stands slotCount slotCount) s n (λ _. here _ _ refl refl refl) (λ _. stands-keeping n 0)
+abbrev pub full : Reach
+full = before slotCount slotCount
 
-stands-polled : (c : Control) → Stands slotCount slotCount (polled c)
+pub stands-keeping : (n k : ℕ) → Stands full (keeping n k)
+stands-keeping n k = keeping-cases (Stands full) n k (λ _. here refl) (λ _. here refl)
+
+pub stands-draining : (s n : ℕ) → Stands full (draining s n)
+stands-draining s n = draining-cases (Stands full) s n (λ _. here refl) (λ _. stands-keeping n 0)
+
+stands-polled : (c : Control) → Stands full (polled c)
 stands-polled c =
-    polled-cases (Stands slotCount slotCount) c (λ _. here _ _ refl refl refl) (λ _ _. here _ _ refl refl refl)
-    (λ _ _. stands-draining (c .swapped) (c .length))
+    polled-cases (Stands full) c (λ _. here refl) (λ _ _. here refl) (λ _ _. stands-draining (c .swapped) (c .length))
 
-pub stands-polling : (c : Control) (k : ℕ) → k ≤ slotCount → Stands k slotCount (polling c k)
+pub stands-polling : (c : Control) (k : ℕ) → k ≤ slotCount → Stands (before k slotCount) (polling c k)
 stands-polling c k h =
-    polling-cases (Stands k slotCount) c k (λ _. here _ _ refl refl refl)
-    (λ g. let q : slotCount ≡ k = omega arith in subst (λ (x : ℕ). Stands x slotCount (polled c)) q (stands-polled c))
+    polling-cases (Stands (before k slotCount)) c k (λ _. here refl)
+    (λ g. let q : slotCount ≡ k = omega arith in thus (ap (λ (x : ℕ). before x slotCount) q) (stands-polled c))
 
--- before the first swap all are cleared
-pub all-cleared : {f : Bool} (k : ℕ) → f ≡ true → orAll f k ≡ slotCount
-all-cleared k e = rw e
-
+-- a call begins with all slots snapped, and none cleared but before the first swap
 pub record Begins (c : Control) (p : Phase) : Type 0 where
-  pub clear : cleared (c .first) p ≡ cleared (c .first) Idle
-  pub snap : snapped p ≡ slotCount
+  pub at : firstly (c .first) (reachAt p) ≡ firstly (c .first) (reachAt Idle)
   pub stays : isGone p ≡ false
 
 pub begins-polling : (c : Control) → Begins c (polling c 0)
-begins-polling c =
-    let h = stands-polling c 0 (omega arith) in record { clear = ap (orAll (c .first)) (h .clear); snap = h .snap; stays = h .stays }
+begins-polling c = let h = stands-polling c 0 (omega arith) in record { at = ap (firstly (c .first)) (h .at); stays = h .stays }
 
 pub begins-beginning : (c : Control) → Begins c (beginning c)
 begins-beginning c =
     beginning-cases (Begins c) c
-    (λ e. record { clear = all-cleared (clearedAt Swap) e ∙ sym (all-cleared (clearedAt Idle) e); snap = refl; stays = refl })
+    (λ e. record { at = ap (λ (f : Bool). firstly f full) e ∙ sym (ap (λ (f : Bool). firstly f (before 0 slotCount)) e); stays = refl })
     (λ e. begins-polling c)
 
 pub begins-taking : (c : Control) → Begins c (taking c)
 begins-taking c =
-    by (Begins c) (c .first || ltb 0 (c .length)) (λ _. record { clear = refl; snap = refl; stays = refl })
-    (λ _. record { clear = refl; snap = refl; stays = refl })
+    by (Begins c) (c .first || ltb 0 (c .length)) (λ _. record { at = refl; stays = refl }) (λ _. record { at = refl; stays = refl })
 
-stands-published : (j : Job) (n : ℕ) → Stands 0 slotCount (published j n)
-stands-published Publish n = here _ _ refl refl refl
-stands-published Try n = here _ _ refl refl refl
-stands-published TakeFirst n = below (Stands 0 slotCount) 0 n (λ _. here _ _ refl refl refl) (λ _. here _ _ refl refl refl)
-stands-published TakeSecond n = here _ _ refl refl refl
+stands-published : (j : Job) (n : ℕ) → Stands (before 0 slotCount) (published j n)
+stands-published Publish n = here refl
+stands-published Try n = here refl
+stands-published TakeFirst n = below (Stands (before 0 slotCount)) 0 n (λ _. here refl) (λ _. here refl)
+stands-published TakeSecond n = here refl
 
-pub stands-snapping : (c : Control) (k : ℕ) → k ≤ slotCount → Stands 0 k (snapping c k .phase)
+pub stands-snapping : (c : Control) (k : ℕ) → k ≤ slotCount → Stands (before 0 k) (snapping c k .phase)
 stands-snapping c k h =
-    snapping-cases (λ d. Stands 0 k (d .phase)) c k (λ _. here _ _ refl refl refl)
-    (λ g. let e = stands-published (c .job) (c .length) in here _ _ (e .clear) (omega (arith, e .snap)) (e .stays))
+    snapping-cases (λ d. Stands (before 0 k) (d .phase)) c k (λ _. here refl)
+    (λ g. let q : slotCount ≡ k = omega arith in thus (ap (before 0) q) (stands-published (c .job) (c .length)))
 
-pub stands-lastPolling : (k : ℕ) → k ≤ slotCount → Stands k slotCount (lastPolling k)
+pub stands-lastPolling : (k : ℕ) → k ≤ slotCount → Stands (reach k slotCount k slotCount) (lastPolling k)
 stands-lastPolling k h =
-    lastPolling-cases (Stands k slotCount) k (λ _. here _ _ refl refl refl) (λ g. here _ _ (omega arith) refl refl)
+    lastPolling-cases (Stands (reach k slotCount k slotCount)) k (λ _. here refl)
+    (λ g. let q : slotCount ≡ k = omega arith in thus (ap (λ (x : ℕ). reach x slotCount x slotCount) q) (here refl))
 
-pub stands-lastSnapping : (k : ℕ) → Stands 0 slotCount (lastSnapping k)
-stands-lastSnapping k =
-    lastSnapping-cases (Stands 0 slotCount) k (λ _. here _ _ refl refl refl) (λ g. stands-lastPolling 0 (omega arith))
+pub stands-lastSnapping : (k : ℕ) → k ≤ slotCount → Stands (reach 0 slotCount 0 k) (lastSnapping k)
+stands-lastSnapping k h =
+    lastSnapping-cases (Stands (reach 0 slotCount 0 k)) k (λ _. here refl)
+    (λ g. let q : slotCount ≡ k = omega arith in thus (ap (reach 0 slotCount 0) q) (stands-lastPolling 0 (omega arith)))
 
--- another phase and job, with a lock and a pointer that fit
-abbrev pub onward : Bool → Bool → Phase → Job → Control → Control
-onward null lock p j c = record {
+-- the pointer's side and `first` stay
+abbrev pub steered : Bool → Bool → Bool → Phase → Job → ℕ → ℕ → Control → Control
+steered null lock second p j n s c = record {
   right = c .right;
   null = null;
   lock = lock;
   first = c .first;
-  second = c .second;
+  second = second;
   phase = p;
   job = j;
-  length = c .length;
-  swapped = c .swapped;
+  length = n;
+  swapped = s;
 }
+
+-- before null take has waited for nobody
+pub before-null : (p : Phase) → nulls p ≡ false → (reachAt p .emptied ≡ 0) × (reachAt p .resnapped ≡ 0)
+before-null Idle e = (refl, refl)
+before-null Begin e = (refl, refl)
+before-null (Poll k) e = (refl, refl)
+before-null Copy e = (refl, refl)
+before-null Drain e = (refl, refl)
+before-null (Keep k) e = (refl, refl)
+before-null Swap e = (refl, refl)
+before-null (Snap k) e = (refl, refl)
+before-null Null e = (refl, refl)
+before-null Lock e = (refl, refl)
+before-null (LastSnap k) e = clash refl e
+before-null (LastPoll k) e = clash refl e
+before-null Finish e = clash refl e
+before-null Gone e = clash refl e
+
+-- another phase and job, with a lock and a pointer that fit
+abbrev pub onward : Bool → Bool → Phase → Job → Control → Control
+onward null lock p j c = steered null lock (c .second) p j (c .length) (c .swapped) c
 
 -- that is all that the snapshots change
 pub snapping-onward : (c : Control) (k : ℕ) → snapping c k ≡ onward (c .null) (snapping c k .lock) (snapping c k .phase) (snapping c k .job) c
