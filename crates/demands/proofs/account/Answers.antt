@@ -10,7 +10,7 @@ use Rattle.table.proofs.Seek.{seek-suc-here}
 use Rattle.table.specs.Copy.{lawful}
 use Rattle.table.proofs.Split.{split}
 use Rattle.read.specs.declared.Phase.{Phase}
-use Rattle.read.specs.declared.Phase.the-variants.{Idle, Begin, Poll, Copy, Drain, Keep, Swap, Snap, Null, Lock, LastSnap, LastPoll, Finish, Gone}
+use Rattle.read.specs.declared.Phase.the-variants.{Idle}
 use Rattle.read.specs.declared.Guard.{Guard}
 use Rattle.read.specs.declared.Slot.{Slot}
 use Rattle.read.specs.declared.Control.{Control}
@@ -33,11 +33,11 @@ use Rattle.demands.specs.Account.{Account, unswapped, inside}
 use Rattle.demands.specs.Table.{least, whatComesBack, wanted, busy, lockHeld, meetsReader}
 use Rattle.demands.proofs.shown.Invariant.{Shape, outside, announced, inside as entered}
 use Rattle.demands.proofs.shown.Guards.{all-shut}
-use Rattle.demands.proofs.Phases.{underway-stays}
+use Rattle.demands.proofs.Phases.{underway-stays, gone-is, idle-is}
 use Rattle.demands.proofs.account.Control.{SteersOf, Stands}
 use Rattle.demands.proofs.account.Reader.{Reads, is-inside, is-lowest, misses, answer15}
 use Rattle.demands.proofs.account.Rows.{Agree, none as no-more, same, here, agree-least, signRows, answerNo, rows-least, or-nil, entry-6, entry-7, entry-create, entry-step, entry-append, busy-is, lock-is, Row, row}
-use Rattle.demands.proofs.Booleans.{clash, and-false}
+use Rattle.demands.proofs.Booleans.{clash, and-false, or-false}
 
 -- ---- tests
 
@@ -69,42 +69,6 @@ six-on false false = refl
 twice : (a b : Bool) → (a && (a && b)) ≡ (a && b)
 twice true b = refl
 twice false b = refl
-
-gone-unlocked : (p : Phase) → isGone p ≡ true → locks p ≡ false
-gone-unlocked Idle e = refl
-gone-unlocked Begin e = refl
-gone-unlocked (Poll k) e = clash e refl
-gone-unlocked Copy e = clash e refl
-gone-unlocked Drain e = clash e refl
-gone-unlocked (Keep k) e = clash e refl
-gone-unlocked Swap e = clash e refl
-gone-unlocked (Snap k) e = clash e refl
-gone-unlocked Null e = refl
-gone-unlocked Lock e = refl
-gone-unlocked (LastSnap k) e = clash e refl
-gone-unlocked (LastPoll k) e = clash e refl
-gone-unlocked Finish e = clash e refl
-gone-unlocked Gone e = refl
-
-or-left : (a b : Bool) → (a || b) ≡ false → a ≡ false
-or-left true b e = e
-or-left false b e = refl
-
-idle-of : (p : Phase) → underway p ≡ false → isGone p ≡ false → p ≡ Idle
-idle-of Idle u g = refl
-idle-of Begin u g = clash refl u
-idle-of (Poll k) u g = clash refl u
-idle-of Copy u g = clash refl u
-idle-of Drain u g = clash refl u
-idle-of (Keep k) u g = clash refl u
-idle-of Swap u g = clash refl u
-idle-of (Snap k) u g = clash refl u
-idle-of Null u g = clash refl u
-idle-of Lock u g = clash refl u
-idle-of (LastSnap k) u g = clash refl u
-idle-of (LastPoll k) u g = clash refl u
-idle-of Finish u g = clash refl u
-idle-of Gone u g = clash refl g
 
 -- no guard is open where a load is due
 none-all : (gs : List Guard) → anyOpen gs ≡ false → allOpen gs ≡ false
@@ -144,7 +108,7 @@ module _ (a : Account) (c : Control) (h : SteersOf a c) (w : Whole c) where
   busy-stays e = gone' ∙ underway-stays (c .phase) (sym busy' ∙ e)
 
   gone-unheld : a .gone ≡ true → lockHeld a ≡ false
-  gone-unheld e = lock' ∙ gone-unlocked (c .phase) (sym gone' ∙ e)
+  gone-unheld e = lock' ∙ ap locks (gone-is (c .phase) (sym gone' ∙ e))
 
   -- ---- a call on a handle
 
@@ -265,7 +229,7 @@ module _ (a : Account) (c : Control) (h : SteersOf a c) (w : Whole c) where
         here gone' (λ g. same (same (here (six-write x q g) (λ n. same (here (sym (is-inside rd)) (λ _. same (same (here (f (idle n g)) (λ _. same (same (same (same no-more))))))))))))
       where
         idle : (busy a || (isDue (a .readers 0 .due) || false)) ≡ false → a .gone ≡ false → c .phase ≡ Idle
-        idle n g = idle-of (c .phase) (sym busy' ∙ or-left (busy a) _ n) (sym gone' ∙ g)
+        idle n g = idle-is (c .phase) (sym busy' ∙ or-false (busy a) _ n .0) (sym gone' ∙ g)
 
     pub wanted-append : (kind key amount : ℕ) →
         wanted a (Append kind key amount)

@@ -4,7 +4,7 @@ use mathlib.Core.Path.{_≡_, refl, sym, ap, _∙_, subst}
 use mathlib.Core.Bool.{Bool, true, false, not, _||_, true≢false}
 use mathlib.Core.List.{List}
 use native.Mathlib.Omega.{arith}
-use lib.Dec.{ltb, eqb·suc-zero}
+use lib.Dec.{ltb, eqb·suc-zero, leb}
 use borrow.Author.Tests.{eq-eqb, ne-eqb}
 use native.Mathlib.Decide.{ℕ-discrete}
 use Rattle.table.specs.Answers.{number}
@@ -18,6 +18,7 @@ use Rattle.read.specs.Machine.{isGone}
 use Rattle.write.specs.declared.Moved.{Moved}
 use Rattle.write.specs.declared.Opening.{Opening}
 use Rattle.write.specs.declared.Opening.the-variants as opening
+use Rattle.read.specs.Admission.{row}
 use Rattle.write.specs.Steps.{at, swappedOver, nextJob, keeping, draining, polled, polling, beginning, published, lastPolling, lastSnapping, snapping, holds, pollMove, lastPollMove, stepAt}
 use Rattle.write.specs.Begins.{taking, opened}
 use Rattle.write.proofs.Cases.{by, below, keeping-cases, draining-cases, polled-cases, polling-cases, beginning-cases, lastPolling-cases, lastSnapping-cases, snapping-cases}
@@ -53,22 +54,9 @@ Log (LastPoll k) n s m o = Unit {0}
 Log Finish n s m o = Unit {0}
 Log Gone n s m o = Unit {0}
 
--- take's end
+-- take's end, from null on
 abbrev pub isLast : Phase → Bool
-isLast Idle = false
-isLast Begin = false
-isLast (Poll k) = false
-isLast Copy = false
-isLast Drain = false
-isLast (Keep k) = false
-isLast Swap = false
-isLast (Snap k) = false
-isLast Null = true
-isLast Lock = true
-isLast (LastSnap k) = true
-isLast (LastPoll k) = true
-isLast Finish = true
-isLast Gone = true
+isLast p = leb 8 (row p)
 
 pub record Stands (n s m o : ℕ) (trial gone : Bool) (p : Phase) : Type 0 where
   pub log : Log p n s m o

@@ -1,7 +1,7 @@
 -- The demands, over what a history says, of the rules: account and world stay alike along every history.
 use Prim.Native.Nat.{ℕ, zero, suc, _-_, _*_, _≤_, _<_}
 use mathlib.Core.Path.{_≡_, refl, sym, ap, _∙_, subst, subst₂}
-use mathlib.Core.Logic.{_⊎_, inl, inr, ⊎-elim}
+use mathlib.Core.Logic.{⊎-elim}
 use mathlib.Core.Bool.{Bool, true, false, not, _&&_, _||_}
 use mathlib.Core.List.{List, [], _∷_}
 use native.Mathlib.Omega.{arith}
@@ -11,14 +11,13 @@ use borrow.Author.Tests.{eqb-true, lt-ltb, not-false}
 use Rattle.table.specs.Order.{Op, empty, after}
 use Rattle.table.proofs.Split.{split, under}
 use Rattle.read.specs.declared.Phase.{Phase}
-use Rattle.read.specs.declared.Phase.the-variants.{Idle, Begin, Poll, Copy, Drain, Keep, Swap, Snap, Null, Lock, LastSnap, LastPoll, Finish, Gone}
 use Rattle.read.specs.declared.Slot.{Slot}
 use Rattle.read.specs.declared.Control.{Control}
 use Rattle.read.specs.declared.Handle.the-variants.{LookUp}
 use Rattle.read.specs.declared.Signs.{Signs}
 use Rattle.read.specs.declared.Verdict.{Verdict}
 use Rattle.read.specs.declared.Verdict.the-variants.{Admitted, Refused}
-use Rattle.read.specs.Machine.{slotCount, guardCount, noSlot, logWords, fresh, isGone, underway, isOpen, judged}
+use Rattle.read.specs.Machine.{slotCount, guardCount, noSlot, logWords, fresh, isGone, isOpen, judged}
 use Rattle.read.specs.Handles.{smallest, handleSigns, guardedCopy, copyOf}
 use Rattle.read.specs.Calls.{slotAt, throughRule}
 use Rattle.write.specs.declared.Call.{Call}
@@ -50,6 +49,7 @@ use Rattle.demands.proofs.account.Rows.{answerNo, busy-is, row}
 use Rattle.demands.proofs.account.Answers.{wanted-on}
 use Rattle.demands.proofs.account.Calls.{Tie, Right, whole, create-right, handle-right, append-right, open-right}
 use Rattle.demands.proofs.account.Step.{step-right}
+use Rattle.demands.proofs.Phases.{gone-is, idle-or-gone}
 use Rattle.demands.proofs.Booleans.{clash}
 
 -- ---- one call
@@ -238,22 +238,6 @@ module _ {w : World} {a : Account} (h : Tie w a) where
       (λ o. open-shows i j o ∙ ap (λ (b : Bool). elim b [ true ↦ after (a .readers i .loaded j) empty | false ↦ [] ]) (sym o))
       (λ o. shut-shows i j o ∙ ap (λ (b : Bool). elim b [ true ↦ after (a .readers i .loaded j) empty | false ↦ [] ]) (sym o))
 
-  gone-is : (p : Phase) → isGone p ≡ true → p ≡ Gone
-  gone-is Idle e = clash e refl
-  gone-is Begin e = clash e refl
-  gone-is (Poll k) e = clash e refl
-  gone-is Copy e = clash e refl
-  gone-is Drain e = clash e refl
-  gone-is (Keep k) e = clash e refl
-  gone-is Swap e = clash e refl
-  gone-is (Snap k) e = clash e refl
-  gone-is Null e = clash e refl
-  gone-is Lock e = clash e refl
-  gone-is (LastSnap k) e = clash e refl
-  gone-is (LastPoll k) e = clash e refl
-  gone-is Finish e = clash e refl
-  gone-is Gone e = refl
-
   all-gone : a .gone ≡ true → HandsOver (record { world = w; account = a })
   all-gone g =
       let t = seenOf a in
@@ -269,22 +253,6 @@ module _ {w : World} {a : Account} (h : Tie w a) where
         alone = λ i j.
             split (a .readers i .guards j) (λ o. absurd (gone-shut (h .sound) (h .inv) e i j (h .reads i .guards j ∙ o))) (λ o. o);
       }
-
-  idle-or-gone : (p : Phase) → underway p ≡ false → (p ≡ Idle) ⊎ (p ≡ Gone)
-  idle-or-gone Idle e = inl refl
-  idle-or-gone Begin e = clash refl e
-  idle-or-gone (Poll k) e = clash refl e
-  idle-or-gone Copy e = clash refl e
-  idle-or-gone Drain e = clash refl e
-  idle-or-gone (Keep k) e = clash refl e
-  idle-or-gone Swap e = clash refl e
-  idle-or-gone (Snap k) e = clash refl e
-  idle-or-gone Null e = clash refl e
-  idle-or-gone Lock e = clash refl e
-  idle-or-gone (LastSnap k) e = clash refl e
-  idle-or-gone (LastPoll k) e = clash refl e
-  idle-or-gone Finish e = clash refl e
-  idle-or-gone Gone e = inr refl
 
   -- where no call is under way the log is as long as the history says, or it is empty after take
   unused-log : busy a ≡ false → (x : ℕ) → 3 * a .store .inLog ≤ x → getD (w .log) x 0 ≡ 0

@@ -1,7 +1,7 @@
 -- The table by rows: what the rules' signs say is what the account's rows say, so the answers are the same.
 use Prim.Native.Nat.{ℕ, suc, _<_}
 use mathlib.Core.Path.{_≡_, refl, sym, ap, _∙_}
-use mathlib.Core.Logic.{_≢_}
+use mathlib.Core.Logic.{_≢_, ⊎-elim}
 use mathlib.Core.Bool.{Bool, true, false, not, _&&_, _||_}
 use mathlib.Core.List.{List, [], _∷_, _++_}
 use native.Mathlib.Omega.{arith}
@@ -30,6 +30,7 @@ use Rattle.demands.specs.Account.{Move, Account, account}
 use Rattle.demands.specs.Table.{least, busy, underLock, lockHeld, meetsReader, whatComesBack, wanted}
 use Rattle.demands.proofs.account.Plan.{moveOf, plan, plan-head, plan-none}
 use Rattle.demands.proofs.account.Control.{SteersOf}
+use Rattle.demands.proofs.Phases.{idle-or-gone}
 use Rattle.demands.proofs.Booleans.{clash, both, and-false, or-first, or-true}
 
 -- ---- rows
@@ -259,22 +260,6 @@ move-locks (LastPoll k) u = refl
 move-locks Finish u = refl
 move-locks Gone u = clash u refl
 
-idle-locks : (p : Phase) → underway p ≡ false → locks p ≡ false
-idle-locks Idle u = refl
-idle-locks Begin u = clash refl u
-idle-locks (Poll k) u = clash refl u
-idle-locks Copy u = clash refl u
-idle-locks Drain u = clash refl u
-idle-locks (Keep k) u = clash refl u
-idle-locks Swap u = clash refl u
-idle-locks (Snap k) u = clash refl u
-idle-locks Null u = clash refl u
-idle-locks Lock u = clash refl u
-idle-locks (LastSnap k) u = clash refl u
-idle-locks (LastPoll k) u = clash refl u
-idle-locks Finish u = clash refl u
-idle-locks Gone u = refl
-
 pub plan-busy : (c : Control) → Whole c → isBusy (plan c) ≡ underway (c .phase)
 plan-busy c w =
     split (underway (c .phase)) (λ u. ap isBusy (plan-head c w u .1) ∙ sym u) (λ u. ap isBusy (plan-none c u) ∙ sym u)
@@ -287,4 +272,4 @@ module _ (a : Account) (c : Control) (h : SteersOf a c) (w : Whole c) where
   lock-is =
       ap heldBy (h .left)
       ∙ split (underway (c .phase)) (λ u. ap heldBy (plan-head c w u .1) ∙ move-locks (c .phase) u)
-      (λ u. ap heldBy (plan-none c u) ∙ sym (idle-locks (c .phase) u))
+      (λ u. ap heldBy (plan-none c u) ∙ sym (⊎-elim (ap locks) (ap locks) (idle-or-gone (c .phase) u)))

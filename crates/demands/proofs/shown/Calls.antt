@@ -12,7 +12,6 @@ use Rattle.table.specs.Copy.{lawful}
 use Rattle.table.specs.Order.{Op, after}
 use Rattle.table.proofs.Cases.{apply-made}
 use Rattle.table.proofs.CopyFit.{fit-fits}
-use Rattle.table.proofs.Split.{split}
 use Rattle.read.specs.declared.Phase.{Phase}
 use Rattle.read.specs.declared.Phase.the-variants.{Idle}
 use Rattle.read.specs.declared.Job.{Job}
@@ -39,13 +38,13 @@ use Rattle.demands.proofs.shown.Stages.{Begins, begins-polling, begins-
 use Rattle.demands.proofs.shown.Lifts.{ctl, withControl, slotBack, snapBack, StageIn, snap-back, both-back, slot-keeps, control-keeps, write-keeps}
 use Rattle.demands.proofs.Sound.{SoundIn, sound-slot}
 use Rattle.demands.proofs.shown.Steps.{fit-write}
-use Rattle.demands.proofs.Phases.{withJob, underway-stays}
+use Rattle.demands.proofs.Phases.{withJob, gone-is}
 use Rattle.demands.proofs.Booleans.{clash, or-false}
 
 -- ---- slot 0 is left alone while a call of the writer is under way
 
 gone-rests : (p : Phase) → isGone p ≡ true → underway p ≡ false
-gone-rests p g = split (underway p) (λ u. clash g (underway-stays p u)) (λ n. n)
+gone-rests p g = ap underway (gone-is p g)
 
 in-time : (b : Bool) → eqb (notNow b) 6 ≡ false → b ≡ false
 in-time true e = clash refl e

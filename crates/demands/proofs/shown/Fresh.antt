@@ -25,7 +25,7 @@ fresh-inv = record {
   own = λ u. clash u refl;
   read = refl;
   atBegin = λ u. clash u refl;
-  stage = early refl (record { unsynced = refl; unlogged = refl; holds = refl });
+  stage = early refl (refl, record { unsynced = refl; unlogged = refl; holds = refl });
   unused = fresh-unused;
   spent = λ z. clash z refl;
 }

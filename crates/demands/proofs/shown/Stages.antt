@@ -20,7 +20,7 @@ use Rattle.read.specs.Machine.{slotCount, isGone, nulls}
 use Rattle.write.specs.Steps.{keeping, draining, polled, polling, beginning, published, nextJob, lastPolling, lastSnapping, snapping}
 use Rattle.write.specs.Begins.{taking}
 use Rattle.write.proofs.Cases.{by, below, keeping-cases, draining-cases, polled-cases, polling-cases, beginning-cases, lastPolling-cases, lastSnapping-cases, snapping-cases}
-use Rattle.demands.proofs.shown.Invariant.{Stage, First, Early, early, late, Lacks, isSecond, Reach, reach, before, reachAt, firstly}
+use Rattle.demands.proofs.shown.Invariant.{Stage, early, late, Lacks, isSecond, Reach, reach, before, reachAt, firstly}
 use Rattle.demands.proofs.shown.Log.{noOp}
 use Rattle.demands.proofs.Booleans.{clash, or-false}
 
@@ -232,7 +232,7 @@ module _ {j : Job} {b : Bool} {s : ℕ} {os : List Op} {r w : List ℕ} {acc pb 
 
   -- the copying: both copies are alike
   pub copy-stage : (n : ℕ) → length os ≡ n → Stage Copy j b s os r w acc pb f → Stage (draining s n) j false s os r r acc pb f
-  copy-stage n ln (early e h) = absurd h
+  copy-stage n ln (early e h) = clash (h .0) refl
   copy-stage n ln (late e h) =
       stage-draining n ln e refl (h .behind) (subst (λ (x : ℕ). after (take x os) r ≡ r) (sym (h .holds)) refl) (h .empties)
 
@@ -240,7 +240,7 @@ module _ {j : Job} {b : Bool} {s : ℕ} {os : List Op} {r w : List ℕ} {acc pb 
   pub drain-stage :
       (n s′ : ℕ) (o : Op) (os′ : List Op) → length os′ ≡ n → s ≡ suc s′ → os ≡ o ∷ os′ → Stage Drain j b s os r w acc pb f →
       Stage (draining s′ n) j b s′ os′ r (after (o ∷ []) w) acc pb f
-  drain-stage n s′ o os′ ln z q (early e h) = absurd h
+  drain-stage n s′ o os′ ln z q (early e h) = clash (h .0) refl
   drain-stage n s′ o os′ ln z q (late e h) =
       stage-draining n ln e (h .holds .0) (h .behind ∙ (λ t. pb ++ drop (z t) (q t))) ((λ t. after (take (sym z t) (sym q t)) w) ∙ h .holds .1)
       (λ x. let a = h .empties x in let d : length os ≡ suc (length os′) = ap length q in omega arith)
@@ -249,7 +249,7 @@ module _ {j : Job} {b : Bool} {s : ℕ} {os : List Op} {r w : List ℕ} {acc pb 
   pub keep-stage :
       {k : ℕ} (n : ℕ) → length os ≡ n → k < n → Stage (Keep k) j b s os r w acc pb f →
       Stage (keeping n (k + 1)) j b s os r (after (getD os k noOp ∷ []) w) acc pb f
-  keep-stage n ln lt (early e h) = absurd h
+  keep-stage n ln lt (early e h) = clash (h .0) refl
   keep-stage {k} n ln lt (late e h) =
       stage-keeping n (k + 1) ln e (h .holds .0) (h .holds .1) (h .behind)
       (ap (after (getD os k noOp ∷ [])) (h .holds .2)
@@ -259,7 +259,7 @@ module _ {j : Job} {b : Bool} {s : ℕ} {os : List Op} {r w : List ℕ} {acc pb 
   pub snap-stage :
       {k : ℕ} → Stage (Snap k) j b s os r w acc pb f →
       (f ≡ false) × (acc ≡ pb ++ drop s os) × Lacks b s os r w × (s ≡ length os) × (isSecond j ≡ true → os ≡ [])
-  snap-stage (early e h) = absurd h
+  snap-stage (early e h) = clash (h .0) refl
   snap-stage (late e h) = (e, h .behind, h .holds, h .empties .0, h .empties .1)
 
   -- the write copy holds all that was accepted, and lacks nothing of what it will be read for
@@ -267,7 +267,7 @@ module _ {j : Job} {b : Bool} {s : ℕ} {os : List Op} {r w : List ℕ} {acc pb 
       Stage Swap j b s os r w acc pb f → r ≡ after pb empty →
       (w ≡ after acc empty) × Lacks b (length os) os w r × (isSecond j ≡ true → os ≡ [])
   swap-stage (early e h) q =
-      (h .holds, subst (λ (x : Bool). Lacks x (length os) os w r) (sym (h .unsynced)) (ap length (h .unlogged)), λ _. h .unlogged)
+      (h .1 .holds, subst (λ (x : Bool). Lacks x (length os) os w r) (sym (h .1 .unsynced)) (ap length (h .1 .unlogged)), λ _. h .1 .unlogged)
   swap-stage (late e h) q = (
     all,
     subst (λ (x : Bool). Lacks x (length os) os w r) (sym (h .holds .0)) (rw (take-length os) (sym (h .holds .2))),
@@ -294,11 +294,14 @@ module _ {j : Job} {b : Bool} {s : ℕ} {os : List Op} {r w : List ℕ} {acc pb 
 
   pub apply-stage :
       (o : Op) → f ≡ true → Stage Idle j b s os r w acc pb f → Stage Idle j b s os r (after (o ∷ []) w) (acc ++ (o ∷ [])) pb f
-  apply-stage o q (early e h) = early e (record {
-    unsynced = h .unsynced;
-    unlogged = h .unlogged;
-    holds = ap (after (o ∷ [])) (h .holds) ∙ sym (after-append acc (o ∷ []) empty);
-  })
+  apply-stage o q (early e h) = early e (
+    refl,
+    record {
+      unsynced = h .1 .unsynced;
+      unlogged = h .1 .unlogged;
+      holds = ap (after (o ∷ [])) (h .1 .holds) ∙ sym (after-append acc (o ∷ []) empty);
+    },
+  )
   apply-stage o q (late e h) = clash q e
 
 -- a take begins
@@ -326,23 +329,23 @@ pub record Ending (s : ℕ) (os : List Op) (acc pb : List Op) (f : Bool) : Type 
 
 module _ {j : Job} {b : Bool} {s : ℕ} {os : List Op} {r w : List ℕ} {acc pb : List Op} {f : Bool} where
   pub from-null : Stage Null j b s os r w acc pb f → Ending s os acc pb f
-  from-null (early e h) = absurd h
+  from-null (early e h) = clash (h .0) refl
   from-null (late e h) = record { swapped = e; behind = h .behind; spent = h .empties }
 
   pub from-lock : Stage Lock j b s os r w acc pb f → Ending s os acc pb f
-  from-lock (early e h) = absurd h
+  from-lock (early e h) = clash (h .0) refl
   from-lock (late e h) = record { swapped = e; behind = h .behind; spent = h .empties }
 
   pub from-lastSnap : {k : ℕ} → Stage (LastSnap k) j b s os r w acc pb f → Ending s os acc pb f
-  from-lastSnap (early e h) = absurd h
+  from-lastSnap (early e h) = clash (h .0) refl
   from-lastSnap (late e h) = record { swapped = e; behind = h .behind; spent = h .empties }
 
   pub from-lastPoll : {k : ℕ} → Stage (LastPoll k) j b s os r w acc pb f → Ending s os acc pb f
-  from-lastPoll (early e h) = absurd h
+  from-lastPoll (early e h) = clash (h .0) refl
   from-lastPoll (late e h) = record { swapped = e; behind = h .behind; spent = h .empties }
 
   pub from-finish : Stage Finish j b s os r w acc pb f → Ending s os acc pb f
-  from-finish (early e h) = absurd h
+  from-finish (early e h) = clash (h .0) refl
   from-finish (late e h) = record { swapped = e; behind = h .behind; spent = h .empties }
 
   module _ (h : Ending s os acc pb f) where
@@ -373,7 +376,7 @@ to-gone {s} {pb} h z = late (h .swapped) (record {
 pub gone-stage :
     {j : Job} {b : Bool} {s : ℕ} {os : List Op} {r w : List ℕ} {acc pb : List Op} {f : Bool} → Stage Gone j b s os r w acc pb f →
     (acc ≡ pb) × (w ≡ empty)
-gone-stage (early e h) = absurd h
+gone-stage (early e h) = clash (h .0) refl
 gone-stage {s} {pb} (late e h) =
     (h .behind ∙ ap (λ (x : List Op). pb ++ x) (ap (drop s) (h .empties) ∙ drop-nil s) ∙ append-nil pb, h .holds)
 
@@ -381,21 +384,5 @@ gone-stage {s} {pb} (late e h) =
 pub early-empty :
     {p : Phase} {j : Job} {b : Bool} {s : ℕ} {os : List Op} {r w : List ℕ} {acc pb : List Op} {f : Bool} → f ≡ true →
     Stage p j b s os r w acc pb f → os ≡ []
-early-empty {p} {b} {os} {w} {acc} q (early e h) = go p h
-  where
-    go : (p : Phase) → Early p (First b os w acc) → os ≡ []
-    go Idle x = x .unlogged
-    go Begin x = x .unlogged
-    go (Poll k) x = x .unlogged
-    go Copy x = absurd x
-    go Drain x = absurd x
-    go (Keep k) x = absurd x
-    go Swap x = x .unlogged
-    go (Snap k) x = absurd x
-    go Null x = absurd x
-    go Lock x = absurd x
-    go (LastSnap k) x = absurd x
-    go (LastPoll k) x = absurd x
-    go Finish x = absurd x
-    go Gone x = absurd x
+early-empty q (early e h) = h .1 .unlogged
 early-empty q (late e h) = clash q e
