@@ -6,9 +6,9 @@ use mathlib.Core.Bool.{Bool, true, false}
 use mathlib.Core.List.{List, []}
 use lib.Dec.{eqb, ltb}
 use lib.ListN.{getD, replicate}
+use Rattle.table.specs.declared.Answer.the-variants as answer
 use Rattle.table.specs.Answers.{number}
 use Rattle.table.specs.Copy.{zeros, lookRule, usedRule}
-use Rattle.table.specs.declared.Answer.the-variants as answer
 use Rattle.table.proofs.Split.{split}
 use Rattle.read.specs.declared.Verdict.{Verdict}
 use Rattle.read.specs.declared.Verdict.the-variants.{Admitted, Refused}

@@ -7,8 +7,8 @@ use Rattle.read.specs.declared.Reply.{Reply}
 use Rattle.read.specs.Calls.{Lent, withSlot}
 use Rattle.write.specs.declared.Call.{Call}
 use Rattle.write.specs.Machine.{callOn, callRule}
-use Rattle.write.proofs.NeverBroken.{Sound, call-made, sound-call}
 use Rattle.write.specs.World.{World, reply, next}
+use Rattle.write.proofs.NeverBroken.{Sound, call-made, sound-call}
 
 abbrev pub SoundIn : World → Type 0
 SoundIn w = Sound (w .state) (w .left) (w .right) (w .log)

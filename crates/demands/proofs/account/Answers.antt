@@ -6,8 +6,8 @@ use mathlib.Core.List.{List, [], _∷_, _++_}
 use lib.Dec.{eqb, ltb, leb}
 use borrow.Author.Tests.{lt-ltb, le-ltb}
 use Rattle.table.specs.Seek.{seek}
-use Rattle.table.proofs.Seek.{seek-suc-here}
 use Rattle.table.specs.Copy.{lawful}
+use Rattle.table.proofs.Seek.{seek-suc-here}
 use Rattle.table.proofs.Split.{split}
 use Rattle.read.specs.declared.Phase.{Phase}
 use Rattle.read.specs.declared.Phase.the-variants.{Idle}
@@ -15,18 +15,18 @@ use Rattle.read.specs.declared.Guard.{Guard}
 use Rattle.read.specs.declared.Slot.{Slot}
 use Rattle.read.specs.declared.Control.{Control}
 use Rattle.read.specs.declared.Due.{Due}
-use Rattle.read.specs.declared.Due.the-variants as due
 use Rattle.read.specs.declared.Handle.{Handle}
 use Rattle.read.specs.declared.Handle.the-variants.{Drop, Enter, GoOn, Release, LookUp, WasDropped}
 use Rattle.read.specs.declared.Signs.{Signs}
+use Rattle.read.specs.declared.Due.the-variants as due
 use Rattle.read.specs.Machine.{slotCount, guardCount, logRoom, underway, isGone, locks, isDue, isLoad, isOpen, anyOpen, allOpen}
 use Rattle.read.specs.Admission.{column, entry}
 use Rattle.read.specs.Handles.{smallest, handleSigns}
 use Rattle.read.specs.Calls.{createSigns}
 use Rattle.write.specs.declared.Opening.{Opening}
-use Rattle.write.specs.declared.Opening.the-variants as opening
 use Rattle.write.specs.declared.Call.{Call}
 use Rattle.write.specs.declared.Call.the-variants.{Create, On, Append, Open, Step}
+use Rattle.write.specs.declared.Opening.the-variants as opening
 use Rattle.write.specs.Begins.{writerSigns, stepSigns, columnOf}
 use Rattle.write.proofs.Control.{Whole}
 use Rattle.demands.specs.Account.{Account, unswapped, inside}
@@ -36,8 +36,8 @@ use Rattle.demands.proofs.shown.Guards.{all-shut}
 use Rattle.demands.proofs.Phases.{underway-stays, gone-is, idle-is}
 use Rattle.demands.proofs.account.Control.{SteersOf, Stands}
 use Rattle.demands.proofs.account.Reader.{Reads, is-inside, is-lowest, misses, answer15}
-use Rattle.demands.proofs.account.Rows.{Agree, none as no-more, same, here, agree-least, signRows, answerNo, rows-least, or-nil, entry-6, entry-7, entry-create, entry-step, entry-append, busy-is, lock-is, Row, row}
-use Rattle.demands.proofs.Booleans.{clash, and-false, or-false}
+use Rattle.demands.proofs.account.Rows.{Agree, none as no-more, same, here, agree-least, signRows, answerNo, rows-least, entry-6, entry-7, entry-create, entry-step, entry-append, busy-is, lock-is, Row, row}
+use Rattle.demands.proofs.Booleans.{clash, and-false, or-false, or-nil}
 
 -- ---- tests
 

@@ -11,10 +11,10 @@ use Rattle.read.specs.declared.Phase.{Phase}
 use Rattle.read.specs.declared.Job.{Job}
 use Rattle.read.specs.declared.Job.the-variants.{Publish, Try, TakeFirst}
 use Rattle.read.specs.declared.Control.{Control}
+use Rattle.write.specs.declared.Opening.the-variants as opening
 use Rattle.write.specs.Steps.{at, polling, beginning}
 use Rattle.write.specs.Begins.{taking}
 use Rattle.write.proofs.Cases.{by}
-use Rattle.write.specs.declared.Opening.the-variants as opening
 use Rattle.demands.specs.Account.{Move, begin, poll, copy, apply, swap, snap, each, provided, publishing, Store, unswapped, unpublished, publishPlan, planOf}
 use Rattle.demands.proofs.Phases.{withJob}
 use Rattle.demands.proofs.account.Plan.{from-all, lastPlan, afterPlan, swapPlan, polledPlan, beginPlan, plan, plan-beginning, plan-polling}

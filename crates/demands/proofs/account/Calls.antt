@@ -10,9 +10,9 @@ use lib.ListN.{length, getD, set}
 use lib.Seq.{set-getD}
 use lib.Dec.{eqb, ltb, leb}
 use borrow.Author.Tests.{ne-eqb, lt-ltb, le-ltb, ltb-true, ltb-false, leb-false, not-false}
-use Rattle.table.specs.Answers.{number}
 use Rattle.table.specs.declared.Answer.{Answer}
 use Rattle.table.specs.declared.Answer.the-variants as answer
+use Rattle.table.specs.Answers.{number}
 use Rattle.table.specs.Order.{Op}
 use Rattle.table.specs.Copy.{lawful}
 use Rattle.table.specs.Seek.{seek}
@@ -24,27 +24,26 @@ use Rattle.read.specs.declared.State.{State}
 use Rattle.read.specs.declared.Made.{Made}
 use Rattle.read.specs.declared.Reply.{Reply}
 use Rattle.read.specs.declared.Handle.{Handle}
-use Rattle.read.specs.Machine.{slotCount, logRoom, noSlot, newSlot}
-use Rattle.read.specs.Admission.{entry}
+use Rattle.read.specs.declared.Job.the-variants as job
+use Rattle.read.specs.Machine.{slotCount, logRoom, noSlot, newSlot, underway}
+use Rattle.read.specs.Admission.{entry, handleNumber}
 use Rattle.read.specs.Handles.{smallest, handleSigns, handleOn, handled, withDue, bit}
 use Rattle.read.specs.Calls.{Lent, lent, slotAt, withSlot, createSigns, firstFree}
 use Rattle.write.specs.declared.Moved.{Moved}
 use Rattle.write.specs.declared.Opening.{Opening}
-use Rattle.write.specs.declared.Opening.the-variants as opening
-use Rattle.read.specs.Admission.{handleNumber}
 use Rattle.write.specs.declared.Call.{Call}
 use Rattle.write.specs.declared.Call.the-variants.{Create, On, Append, Open, Step, Run}
-use Rattle.read.specs.declared.Job.the-variants as job
+use Rattle.write.specs.declared.Opening.the-variants as opening
 use Rattle.write.specs.Steps.{at, polling, withLog}
 use Rattle.write.specs.Begins.{writerSigns, columnOf, logged, madeAtOnce, appendFirst, appendOn, begun, taking, opened, openOn}
 use Rattle.write.specs.Runs.{snapAt, lift}
 use Rattle.write.specs.Machine.{callOn}
+use Rattle.write.specs.World.{World, worldOf, reply, answerOf, valueOf}
+use Rattle.write.specs.Numbers.{isRun}
 use Rattle.write.proofs.Cases.{by, below}
 use Rattle.write.proofs.Verdicts.{judging, Unopposed, admitted-unopposed, Refusal, refused-mild, append-idle, open-idle}
 use Rattle.write.proofs.Control.{Whole, some-slot}
-use Rattle.write.specs.World.{World, worldOf, reply, answerOf, valueOf}
 use Rattle.demands.specs.Account.{Reader, Account, withAt, newReader, turned, spoke, unswapped, unpublished, accepts, ofStore, ofReader, missed, withPlan, noted}
-use Rattle.write.specs.Numbers.{isRun}
 use Rattle.demands.specs.Table.{wanted, wantedValue, worth, worthOn}
 use Rattle.demands.proofs.Phases.{withJob}
 use Rattle.demands.proofs.shown.Invariant.{Held, reachAt, seen, seenOf, Quiet, ViewOf, Inv}
@@ -55,7 +54,6 @@ use Rattle.demands.proofs.shown.Stages.{before-null, early-empty}
 use Rattle.demands.proofs.shown.Lifts.{atSlot, slot-keeps, both-back}
 use Rattle.demands.proofs.shown.Calls.{Resting, own-quiet, first-keeps, later-keeps, publish-keeps, try-keeps, take-keeps}
 use Rattle.demands.proofs.Sound.{SoundIn}
-use Rattle.read.specs.Machine.{underway}
 use Rattle.demands.proofs.account.Plan.{plan-none}
 use Rattle.demands.proofs.account.Control.{SteersOf, Stands, flush-steers, open-steers}
 use Rattle.demands.proofs.account.Reader.{Reads, misses, answer15, Met, handled-met}

@@ -4,9 +4,9 @@ use mathlib.Core.Path.{_≡_, refl, sym, ap, _∙_, subst}
 use mathlib.Core.Bool.{Bool, true, false, not, _||_, true≢false}
 use mathlib.Core.List.{List}
 use native.Mathlib.Omega.{arith}
+use native.Mathlib.Decide.{ℕ-discrete}
 use lib.Dec.{ltb, eqb·suc-zero, leb}
 use borrow.Author.Tests.{eq-eqb, ne-eqb}
-use native.Mathlib.Decide.{ℕ-discrete}
 use Rattle.table.specs.Answers.{number}
 use Rattle.read.specs.declared.Slot.{Slot}
 use Rattle.read.specs.declared.Phase.{Phase}
@@ -15,16 +15,16 @@ use Rattle.read.specs.declared.Job.{Job}
 use Rattle.read.specs.declared.Job.the-variants.{Publish, Try, TakeFirst, TakeSecond}
 use Rattle.read.specs.declared.Control.{Control}
 use Rattle.read.specs.Machine.{isGone}
+use Rattle.read.specs.Admission.{row}
 use Rattle.write.specs.declared.Moved.{Moved}
 use Rattle.write.specs.declared.Opening.{Opening}
 use Rattle.write.specs.declared.Opening.the-variants as opening
-use Rattle.read.specs.Admission.{row}
 use Rattle.write.specs.Steps.{at, swappedOver, nextJob, keeping, draining, polled, polling, beginning, published, lastPolling, lastSnapping, snapping, holds, pollMove, lastPollMove, stepAt}
 use Rattle.write.specs.Begins.{taking, opened}
+use Rattle.write.specs.Numbers.{isTry}
 use Rattle.write.proofs.Cases.{by, below, keeping-cases, draining-cases, polled-cases, polling-cases, beginning-cases, lastPolling-cases, lastSnapping-cases, snapping-cases}
 use Rattle.write.proofs.Control.{Whole, Fits, fits}
 use Rattle.demands.specs.Account.{Move, null, Store, unswapped, isOdd, Account, withPlan, makes, advanced, onSwap, asked, begins as openingOf}
-use Rattle.write.specs.Numbers.{isTry}
 use Rattle.demands.proofs.Phases.{withJob}
 use Rattle.demands.proofs.account.Plan.{moveOf, plan, step-plan, not-made}
 use Rattle.demands.proofs.account.Beginnings.{Known, publish-known, try-known, take-known}

@@ -24,16 +24,15 @@ use Rattle.write.specs.declared.Call.{Call}
 use Rattle.write.specs.declared.Call.the-variants.{Create, On, Append, Open, Step, Run}
 use Rattle.write.specs.Runs.{snapAt}
 use Rattle.write.specs.Machine.{callOn, callRule}
+use Rattle.write.specs.World.{World, freshWorld, reply, next, answerOf, valueOf}
+use Rattle.write.specs.Numbers.{isRun}
 use Rattle.write.proofs.Cases.{by}
 use Rattle.write.proofs.Verdicts.{judging, admitted-unopposed, refused-mild}
 use Rattle.write.proofs.NeverBroken.{sound-judged, sound-fresh}
-use Rattle.write.specs.World.{World, freshWorld, reply, next, answerOf, valueOf}
 use Rattle.demands.specs.Account.{Reader, Account, freshAccount, newReader, nobody, advanced, ran, noted}
 use Rattle.demands.specs.Table.{least, busy, wanted}
-use Rattle.write.specs.Numbers.{isRun}
-use Rattle.demands.specs.Demands.{Unused as UnusedIn, Told, tell, telling, told, Runs, Shows, HandsOver, Demands}
-use Rattle.demands.specs.Demands.{afterSteps as steppedWorld}
-use Rattle.demands.proofs.delay.RunIsSteps.{RunIsSteps}
+use Rattle.demands.specs.Demands.{Unused as UnusedIn, Told, tell, telling, told, Runs, Shows, HandsOver, Demands, afterSteps as steppedWorld}
+use Rattle.demands.proofs.delay.RunIsSteps.{RunIsSteps, run-is-steps-sound}
 use Rattle.demands.proofs.Sides.{readCopy, writeCopy}
 use Rattle.demands.proofs.shown.Invariant.{seenOf, Stage, opsOf}
 use Rattle.demands.proofs.shown.Guards.{open-below, all-shut, other-at, new-shut}
@@ -41,7 +40,6 @@ use Rattle.demands.proofs.shown.Slot.{guard-inside}
 use Rattle.demands.proofs.shown.Stages.{gone-stage}
 use Rattle.demands.proofs.shown.Fresh.{fresh-inv, free-everywhere}
 use Rattle.demands.proofs.Sound.{of-rule, sound-next}
-use Rattle.demands.proofs.delay.RunIsSteps.{run-is-steps-sound}
 use Rattle.demands.proofs.shown.Lifts.{gone-shut}
 use Rattle.demands.proofs.account.Control.{Stands}
 use Rattle.demands.proofs.account.Reader.{Reads}

@@ -7,8 +7,8 @@ use native.Mathlib.Omega.{arith}
 use lib.ListN.{length, getD}
 use lib.Dec.{eqb, ltb}
 use borrow.Author.Tests.{not-false}
-use Rattle.table.specs.Answers.{number}
 use Rattle.table.specs.declared.Answer.the-variants as answer
+use Rattle.table.specs.Answers.{number}
 use Rattle.table.specs.Seek.{seek}
 use Rattle.table.specs.Copy.{lookRule}
 use Rattle.table.specs.Order.{Op, empty, after}
@@ -21,13 +21,12 @@ use Rattle.read.specs.declared.Handle.{Handle}
 use Rattle.read.specs.declared.Handle.the-variants.{Drop, Enter, GoOn, Release, LookUp, WasDropped}
 use Rattle.read.specs.declared.Made.{Made}
 use Rattle.read.specs.Machine.{guardCount, shut, isOpen, standsRight, putGuard, firstGuard, anyOpen, allOpen, isDue, isLoad}
-use Rattle.read.specs.Handles.{withDue, freed, guarded, loaded, entered, wentOn, released, copyOf, bit, handled}
+use Rattle.read.specs.Handles.{withDue, freed, guarded, loaded, entered, wentOn, released, copyOf, bit, handled, handleSigns}
+use Rattle.read.specs.Admission.{column, entry}
 use Rattle.write.specs.Steps.{holds, seen}
+use Rattle.write.proofs.Verdicts.{Unopposed}
 use Rattle.demands.specs.Account.{Reader, withAt, lowest, inside, reader as readerOf, dropped, turned, opens, closes, readsEpoch, spoke, quits}
 use Rattle.demands.specs.Table.{delays, worthOn}
-use Rattle.read.specs.Admission.{column, entry}
-use Rattle.read.specs.Handles.{handleSigns}
-use Rattle.write.proofs.Verdicts.{Unopposed}
 use Rattle.demands.proofs.shown.Guards.{same-at, other-at, has-room, open-below, all-shut, at-put}
 use Rattle.demands.proofs.shown.Slot.{rowAfter}
 use Rattle.demands.proofs.Booleans.{clash, or-false, or-true, lacks-none}

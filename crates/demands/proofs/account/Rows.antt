@@ -7,8 +7,8 @@ use mathlib.Core.List.{List, [], _∷_, _++_}
 use native.Mathlib.Omega.{arith}
 use lib.Dec.{eqb, ltb}
 use borrow.Author.Tests.{eq-eqb, ltb-true}
-use Rattle.table.specs.Answers.{number}
 use Rattle.table.specs.declared.Answer.{Answer}
+use Rattle.table.specs.Answers.{number}
 use Rattle.table.proofs.Split.{split}
 use Rattle.read.specs.declared.Phase.{Phase}
 use Rattle.read.specs.declared.Phase.the-variants.{Idle, Begin, Poll, Copy, Drain, Keep, Swap, Snap, Null, Lock, LastSnap, LastPoll, Finish, Gone}
@@ -21,9 +21,9 @@ use Rattle.read.specs.declared.Signs.{Signs}
 use Rattle.read.specs.Machine.{underway, isGone, locks}
 use Rattle.read.specs.Admission.{column, entry, notNow, locked as lockedNo}
 use Rattle.read.specs.Handles.{given, smallest}
-use Rattle.write.specs.declared.Opening.the-variants as opening
 use Rattle.write.specs.declared.Call.{Call}
 use Rattle.write.specs.declared.Call.the-variants.{Create, On, Append, Open, Step, Run}
+use Rattle.write.specs.declared.Opening.the-variants as opening
 use Rattle.write.specs.Numbers.{is, among, isStep}
 use Rattle.write.proofs.Control.{Whole}
 use Rattle.demands.specs.Account.{Move, Account, account}
@@ -31,7 +31,7 @@ use Rattle.demands.specs.Table.{least, busy, underLock, lockHeld, meetsR
 use Rattle.demands.proofs.account.Plan.{moveOf, plan, plan-head, plan-none}
 use Rattle.demands.proofs.account.Control.{SteersOf}
 use Rattle.demands.proofs.Phases.{idle-or-gone}
-use Rattle.demands.proofs.Booleans.{clash, both, and-false, or-first, or-true}
+use Rattle.demands.proofs.Booleans.{clash, both, and-false, or-first, or-true, or-nil}
 
 -- ---- rows
 
@@ -57,10 +57,6 @@ agree-least (here {n} {b} {c} {rs} {ss} q f) = go b c q (λ e. agree-least (f e)
     go true false q f = clash refl q
     go false true q f = clash refl (sym q)
     go false false q f = f refl
-
-pub or-nil : (b : Bool) → (b || false) ≡ b
-or-nil true = refl
-or-nil false = refl
 
 abbrev pub isBusy : List Move → Bool
 isBusy ms = elim ms [ [] ↦ false | x ∷ xs ↦ true ]

@@ -8,8 +8,8 @@ use lib.ListN.{length, getD, set}
 use lib.Seq.{set-getD}
 use lib.Dec.{eqb, leb}
 use borrow.Author.Tests.{lt-leb}
-use Rattle.table.specs.Answers.{number}
 use Rattle.table.specs.declared.Answer.the-variants as answer
+use Rattle.table.specs.Answers.{number}
 use Rattle.read.specs.declared.Phase.{Phase}
 use Rattle.read.specs.declared.Phase.the-variants.{Idle, Begin, Poll, Copy, Drain, Keep, Swap, Snap, Null, Lock, LastSnap, LastPoll, Finish, Gone}
 use Rattle.read.specs.declared.Job.{Job}
@@ -18,6 +18,7 @@ use Rattle.read.specs.declared.Slot.{Slot}
 use Rattle.read.specs.declared.Control.{Control}
 use Rattle.read.specs.declared.State.{State}
 use Rattle.read.specs.declared.Reply.{Reply}
+use Rattle.read.specs.declared.Verdict.the-variants.{Admitted}
 use Rattle.read.specs.Machine.{slotCount, noSlot, underway}
 use Rattle.read.specs.Handles.{smallest, freed, bit}
 use Rattle.read.specs.Calls.{Lent, lent, slotAt}
@@ -28,12 +29,11 @@ use Rattle.write.specs.Begins.{stepSigns}
 use Rattle.write.specs.Scans.{polls}
 use Rattle.write.specs.Runs.{snapAt, lift, stepOn}
 use Rattle.write.specs.Machine.{callOn}
+use Rattle.write.specs.World.{World, worldOf, reply}
 use Rattle.write.proofs.Cases.{by}
 use Rattle.write.proofs.Verdicts.{judging, refused-mild, step-underway}
 use Rattle.write.proofs.Control.{Fits, fits, some-slot, whole-step}
-use Rattle.read.specs.declared.Verdict.the-variants.{Admitted}
 use Rattle.write.proofs.Left.{outcome, step-answer, Stepped, done, held, declined, declinedMove, step-stepped, step-value}
-use Rattle.write.specs.World.{World, worldOf, reply}
 use Rattle.demands.specs.Account.{Reader, Account, Move, null, withAt, ofReader, readsEpoch, dropped, withPlan, makes, advanced, noted}
 use Rattle.demands.specs.Table.{least, meets, meetsReader, wanted, wantedValue, worth}
 use Rattle.demands.proofs.account.Moves.{isSwap, each-move}

@@ -6,26 +6,25 @@ use mathlib.Core.Bool.{Bool, true, false, not, _&&_, _||_}
 use mathlib.Core.List.{List, [], _∷_}
 use native.Mathlib.Omega.{arith}
 use lib.Dec.{eqb, ltb}
+use lib.ListN.{List·getD-eq-default}
 use borrow.Author.Tests.{eqb-true, eq-eqb, ne-eqb, lt-ltb}
-use Rattle.read.specs.Machine.{slotCount, isDue}
+use Rattle.table.proofs.Split.{under}
 use Rattle.read.specs.declared.Handle.the-variants.{GoOn, Release}
-use Rattle.write.specs.declared.Opening.{Opening}
-use Rattle.write.specs.declared.Call.the-variants.{On, Open, Step}
-use Rattle.demands.specs.Account.{Reader, Account, Move, poll, each, inside}
-use Rattle.demands.specs.Table.{least, busy, delays, meetsReader, wanted}
-use Rattle.demands.specs.Follows.{Named}
 use Rattle.read.specs.declared.Phase.the-variants.{Idle}
 use Rattle.read.specs.declared.Slot.{Slot}
 use Rattle.read.specs.declared.Control.{Control}
-use Rattle.read.specs.Machine.{guardCount, underway, noSlot, anyOpen}
+use Rattle.read.specs.Machine.{slotCount, isDue, guardCount, underway, noSlot, anyOpen}
 use Rattle.read.specs.Handles.{smallest}
 use Rattle.read.specs.Calls.{slotAt}
+use Rattle.write.specs.declared.Opening.{Opening}
+use Rattle.write.specs.declared.Call.the-variants.{On, Open, Step}
 use Rattle.write.specs.Begins.{writerSigns, columnOf}
 use Rattle.write.specs.Runs.{snapAt}
-use Rattle.write.proofs.Verdicts.{open-idle}
-use Rattle.table.proofs.Split.{under}
-use lib.ListN.{List·getD-eq-default}
 use Rattle.write.specs.World.{World}
+use Rattle.write.proofs.Verdicts.{open-idle}
+use Rattle.demands.specs.Account.{Reader, Account, Move, poll, each, inside}
+use Rattle.demands.specs.Table.{least, busy, delays, meetsReader, wanted}
+use Rattle.demands.specs.Follows.{Named}
 use Rattle.demands.proofs.shown.Invariant.{odd, Shape, outside, announced, inside as entered}
 use Rattle.demands.proofs.shown.Slot.{at-rest}
 use Rattle.demands.proofs.account.Reader.{is-inside, misses, answer15}

@@ -17,19 +17,18 @@ use Rattle.write.specs.declared.Call.the-variants.{Step, Run}
 use Rattle.write.specs.Steps.{place}
 use Rattle.write.specs.Begins.{stepSigns}
 use Rattle.write.specs.Runs.{snapAt, stepOn}
+use Rattle.write.specs.Machine.{callOn, callRule, going}
+use Rattle.write.specs.World.{Machine, World, worldOf, reply, next, answerOf, valueOf}
 use Rattle.write.proofs.Count.{left, steps}
 use Rattle.write.proofs.RunLaws.{run-steps as run-counts}
-use Rattle.write.specs.Machine.{callOn, callRule, going}
 use Rattle.write.proofs.Verdicts.{refused-mild, step-underway}
 use Rattle.write.proofs.Cases.{going-on}
 use Rattle.write.proofs.Control.{Whole}
-use Rattle.write.proofs.Left.{step-lowers, left-idle}
+use Rattle.write.proofs.Left.{step-lowers, left-idle, left-underway}
 use Rattle.write.proofs.NeverBroken.{sound-step}
-use Rattle.write.specs.World.{Machine, World, worldOf, reply, next, answerOf, valueOf}
 use Rattle.demands.specs.Demands.{afterSteps}
 use Rattle.demands.proofs.Phases.{phaseOf}
 use Rattle.demands.proofs.Sound.{SoundIn, below}
-use Rattle.write.proofs.Left.{left-underway}
 use Rattle.demands.proofs.delay.Admitted.{on-step, step-on, run-on}
 use Rattle.demands.proofs.Booleans.{clash}
 

@@ -18,17 +18,17 @@ use Rattle.read.specs.declared.Handle.the-variants.{Drop, Enter, GoOn, Release,
 use Rattle.read.specs.Machine.{slotCount, guardCount}
 use Rattle.read.specs.Handles.{smallest, bit}
 use Rattle.read.specs.Calls.{slotAt, createSigns}
-use Rattle.write.specs.declared.Opening.{Opening}
 use Rattle.read.specs.Admission.{handleNumber}
+use Rattle.write.specs.declared.Opening.{Opening}
 use Rattle.write.specs.declared.Call.{Call}
 use Rattle.write.specs.declared.Call.the-variants.{Create, On, Append, Open, Step, Run}
 use Rattle.write.specs.Machine.{callRule}
-use Rattle.write.proofs.Verdicts.{admitted-unopposed}
 use Rattle.write.specs.World.{World, reply, answerOf, valueOf}
+use Rattle.write.specs.Numbers.{is, isRun}
+use Rattle.write.proofs.Verdicts.{admitted-unopposed}
 use Rattle.write.proofs.Cases.{by}
 use Rattle.demands.specs.Account.{Reader, Account, Move, withAt, lowest, inside, newReader, dropped, turned, opens, closes, readsEpoch, missed, spoke, unswapped, withPlan, advanced, ran, ifDeclined, noted}
 use Rattle.demands.specs.Table.{wantedValue, worth, worthOn}
-use Rattle.write.specs.Numbers.{is, isRun}
 use Rattle.demands.proofs.shown.Guards.{open-below, same-at, other-at}
 use Rattle.demands.proofs.account.Moves.{no-move, ran-keeps}
 use Rattle.demands.proofs.account.Answers.{wanted-create}

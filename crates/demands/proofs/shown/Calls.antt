@@ -15,10 +15,10 @@ use Rattle.table.proofs.CopyFit.{fit-fits}
 use Rattle.read.specs.declared.Phase.{Phase}
 use Rattle.read.specs.declared.Phase.the-variants.{Idle}
 use Rattle.read.specs.declared.Job.{Job}
-use Rattle.read.specs.declared.Job.the-variants as job
 use Rattle.read.specs.declared.Slot.{Slot}
 use Rattle.read.specs.declared.Handle.{Handle}
 use Rattle.read.specs.declared.Handle.the-variants.{Drop, Enter, GoOn, Release, LookUp, WasDropped}
+use Rattle.read.specs.declared.Job.the-variants as job
 use Rattle.read.specs.Machine.{logRoom, underway, isGone}
 use Rattle.read.specs.Admission.{column, entry, notNow}
 use Rattle.read.specs.Handles.{handleSigns, withDue}
@@ -26,9 +26,9 @@ use Rattle.read.specs.Calls.{lent, slotAt}
 use Rattle.write.specs.Steps.{polling, at, withLog, operated}
 use Rattle.write.specs.Begins.{taking, logged, madeAtOnce, appendFirst, begun}
 use Rattle.write.specs.Runs.{snapAt, lift}
+use Rattle.write.specs.World.{World, worldOf}
 use Rattle.write.proofs.Verdicts.{Unopposed}
 use Rattle.write.proofs.Control.{some-slot}
-use Rattle.write.specs.World.{World, worldOf}
 use Rattle.demands.proofs.Sides.{readCopy, writeCopy}
 use Rattle.demands.proofs.shown.Invariant.{Seen, Quiet, Stage, Inv, opsFrom, opsOf, reachAt, firstly, orAll}
 use Rattle.demands.proofs.shown.Slot.{within-same, twice-view, weaken}

@@ -23,10 +23,10 @@ use Rattle.read.specs.Calls.{Lent, lent, slotAt}
 use Rattle.write.specs.declared.Moved.{Moved}
 use Rattle.write.specs.Steps.{holds, seen, snapping, swappedOver, logApplied, over, unlogged, moved, stopped, stepAt, place}
 use Rattle.write.specs.Runs.{snapAt, lift, stepOn}
+use Rattle.write.specs.World.{World, worldOf, answerOf}
 use Rattle.write.proofs.Cases.{by}
 use Rattle.write.proofs.Control.{Placed, some-slot}
 use Rattle.demands.proofs.Sound.{SoundIn, sound-slot}
-use Rattle.write.specs.World.{World, worldOf, answerOf}
 use Rattle.demands.proofs.account.Plan.{moveOf}
 use Rattle.demands.proofs.Sides.{readCopy, writeCopy}
 use Rattle.demands.proofs.shown.Invariant.{Seen, afterMove, Quiet, Stage, Lacks, Inv, opAt, opsFrom, opsOf, Reach, reach, before, reachAt, firstly, orAll, Held, ClearLog}

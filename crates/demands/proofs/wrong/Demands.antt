@@ -1,15 +1,15 @@
 -- Wrong machines that the demands stop: each by one field, at a history that is computed.
 use Prim.Native.Nat.{_+_, _-_, _*_}
-use Rattle.table.specs.Copy.{words}
-use Rattle.read.specs.Machine.{slotCount}
 use mathlib.Core.Path.{refl, sym}
 use mathlib.Core.Bool.{true≢false}
 use mathlib.Core.List.{List, [], _∷_, _++_}
 use native.Mathlib.Omega.{arith}
 use lib.ListN.{length, getD}
 use lib.Dec.{lit≤}
+use Rattle.table.specs.Copy.{words}
 use Rattle.table.proofs.Computes.{apart}
 use Rattle.read.specs.declared.Handle.the-variants.{Drop, Enter, Release, LookUp}
+use Rattle.read.specs.Machine.{slotCount}
 use Rattle.write.specs.declared.Opening.the-variants.{Publish, Try, Flush, Take}
 use Rattle.write.specs.declared.Call.{Call}
 use Rattle.write.specs.declared.Call.the-variants.{Create, On, Append, Open, Step, Run}
@@ -17,9 +17,7 @@ use Rattle.write.specs.Steps.{place}
 use Rattle.write.specs.Runs.{snapAt}
 use Rattle.demands.specs.Demands.{Demands}
 use Rattle.demands.specs.KnownEnds.{publish, enters}
-use Rattle.demands.proofs.wrong.Machines.{passesReaders, holdsAll, heldByEven, comparesGreater, heldByAnyone, skipsPolls, startsOver, tryWaits, forgetsSlot, snapsFree, skipsSlot, nullsEarly, oldSnapshots, ignoresSteps, leavesCopying, copyTrails, leavesIndex, drainLeaves, spills, idleTry, leavesOther, zeroesBoth, handsOther, leavesLog}
-use Rattle.demands.proofs.wrong.Machines.{inventsValue, runsOnce, runsFree, runClears, runsPast, runDeclines, runSlips}
-use Rattle.demands.proofs.wrong.Machines.{refusesAll, doesNothing, twoSlots, createsLocked, clearsAtCreate, clearsAtDrop, entersSnapped, closesThird, keepsGuard, roundsSoon, showsEmpty, appendsToRead, oddClear, dropTrails, publishTries, swapsAtBegin, flushTries, flushesFirst, flushForgets, takesUnpublished}
+use Rattle.demands.proofs.wrong.Machines.{passesReaders, holdsAll, heldByEven, comparesGreater, heldByAnyone, skipsPolls, startsOver, tryWaits, forgetsSlot, snapsFree, skipsSlot, nullsEarly, oldSnapshots, ignoresSteps, leavesCopying, copyTrails, leavesIndex, drainLeaves, spills, idleTry, leavesOther, zeroesBoth, handsOther, leavesLog, inventsValue, runsOnce, runsFree, runClears, runsPast, runDeclines, runSlips, refusesAll, doesNothing, twoSlots, createsLocked, clearsAtCreate, clearsAtDrop, entersSnapped, closesThird, keepsGuard, roundsSoon, showsEmpty, appendsToRead, oddClear, dropTrails, publishTries, swapsAtBegin, flushTries, flushesFirst, flushForgets, takesUnpublished}
 use Rattle.demands.proofs.wrong.Histories.{tells, differ, steps, again, entered, snapped, meeting, replaced, meetingNew, reading}
 
 -- ---- answers

@@ -8,8 +8,8 @@ use native.Mathlib.Omega.{arith}
 use lib.ListN.{length, getD}
 use lib.Dec.{eqb, lit≤}
 use Rattle.table.proofs.Computes.{apart}
-use Rattle.read.specs.Machine.{slotCount}
 use Rattle.read.specs.declared.Handle.the-variants.{Drop, Enter, Release}
+use Rattle.read.specs.Machine.{slotCount}
 use Rattle.write.specs.declared.Opening.the-variants.{Publish, Take}
 use Rattle.write.specs.declared.Call.{Call}
 use Rattle.write.specs.declared.Call.the-variants.{Create, On, Append, Open, Step, Run}

@@ -7,10 +7,10 @@ use mathlib.Core.List.{List, [], _∷_, _++_}
 use native.Mathlib.Omega.{arith}
 use lib.Dec.{eqb, leb, lit≤}
 use borrow.Author.Tests.{eqb-false, leb-false, lt-leb}
+use Rattle.table.specs.declared.Answer.the-variants.{Length, Broken, LogFull}
 use Rattle.table.specs.Answers.{number}
 use Rattle.table.specs.Copy.{pairs, entries}
 use Rattle.table.specs.Order.{Op}
-use Rattle.table.specs.declared.Answer.the-variants.{Length, Broken, LogFull}
 use Rattle.read.specs.declared.State.{State}
 use Rattle.read.specs.declared.Reply.{Reply}
 use Rattle.read.specs.declared.Control.{Control}
@@ -22,9 +22,9 @@ use Rattle.write.specs.declared.Call.{Call}
 use Rattle.write.specs.declared.Call.the-variants.{Append}
 use Rattle.write.specs.Runs.{snapAt, lift}
 use Rattle.write.specs.Machine.{callOn, callRule}
+use Rattle.write.specs.World.{Machine, reply, answerOf, valueOf}
 use Rattle.write.proofs.Cases.{append-cases}
 use Rattle.write.proofs.Verdicts.{judging}
-use Rattle.write.specs.World.{Machine, reply, answerOf, valueOf}
 use Rattle.demands.specs.Account.{Account, account, stored, noted}
 use Rattle.demands.specs.Table.{wanted}
 use Rattle.demands.specs.Demands.{Told, Demands, tell, telling, told, freshTold}
