@@ -31,6 +31,7 @@ use Rattle.play.specs.declared.turns.Turned.{Turned}
 use Rattle.play.specs.Turns.{isStep, goesOn, stepValue, target, absent, turnOn}
 use Rattle.play.proofs.Due.{due, due-start, sound-due, due-absent, Continues, after, ending, turnAt, turn-over, turn-more}
 use Rattle.play.proofs.StepsDue.{step-slot, step-held, held-stops, movedTo, step, step-over, step-more}
+use Rattle.read.proofs.Cases.{stateOf}
 
 -- ---- what is still to be written
 

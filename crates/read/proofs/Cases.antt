@@ -28,6 +28,10 @@ use Rattle.read.specs.Calls.{slotAt, withSlot, refusal, lent, firstFree,
 use Rattle.read.proofs.Tests.{and-left, and-right, and-false}
 use Rattle.read.proofs.Verdicts.{refused-admitted, admitted-clear}
 
+-- a state by its parts
+abbrev pub stateOf : Control → List Slot → List ℕ → State
+stateOf c ss es = record { control = c; slots = ss; snapshots = es }
+
 -- another lock than the phase asks
 abbrev pub withLock : Bool → Control → Control
 withLock lock c =

@@ -26,7 +26,7 @@ use Rattle.read.specs.Machine.{slotCount, noSlot, anyOpen, wholeControl,
 use Rattle.read.specs.Handles.{given, smallest, handleSigns, handled, handleOn, loaded, entered, wentOn}
 use Rattle.read.specs.Calls.{slotAt, withSlot, firstFree, createSigns, handleReply, handleRule, createReply, createRule, Lent, startRule}
 use Rattle.read.proofs.Tests.{or-right}
-use Rattle.read.proofs.Cases.{glanced-length, glanced-broken, glanced-whole, judged-refused, judged-broken, judged-whole, loaded-null, loaded-side, entered-inside, entered-outside, handle-refused, handle-made, reply-past, reply-in, call-refused, call-judged, create-refused, create-made, new-refused, new-judged, start-refused, start-made}
+use Rattle.read.proofs.Cases.{stateOf, glanced-length, glanced-broken, glanced-whole, judged-refused, judged-broken, judged-whole, loaded-null, loaded-side, entered-inside, entered-outside, handle-refused, handle-made, reply-past, reply-in, call-refused, call-judged, create-refused, create-made, new-refused, new-judged, start-refused, start-made}
 
 -- ---- the numbers
 
@@ -147,7 +147,7 @@ ReplyEnds st q = Ends st (q .answer) (q .value) (q .state)
 
 put-same : (i : ℕ) (st : State) → withSlot i (slotAt st i) st ≡ st
 put-same i st =
-    ap (λ (ss : List Slot). record { control = st .control; slots = ss; snapshots = st .snapshots }) (set-getD (st .slots) i noSlot)
+    ap (λ (ss : List Slot). stateOf (st .control) ss (st .snapshots)) (set-getD (st .slots) i noSlot)
 
 -- what is left of the slot is left of the state
 put-ends : (i : ℕ) (st : State) (a : Answer) (v : ℕ) (s : Slot) → Ends (slotAt st i) a v s → Ends st a v (withSlot i s st)

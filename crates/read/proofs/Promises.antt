@@ -15,8 +15,8 @@ use Rattle.read.specs.declared.Signs.{Signs}
 use Rattle.read.specs.declared.Made.{Made}
 use Rattle.read.specs.declared.Reply.{Reply}
 use Rattle.read.specs.declared.Handle.the-variants.{Drop, Enter, GoOn, Release, LookUp, WasDropped}
-use Rattle.read.specs.Machine.{same, isOpen, firstGuard, anyOpen, allOpen, isDue, isLoad, noSlot, newSlot, locks, nulls, sized, glanced, judged}
-use Rattle.read.specs.Admission.{row, column, entry}
+use Rattle.read.specs.Machine.{same, isOpen, firstGuard, anyOpen, allOpen, isDue, isLoad, noSlot, newSlot, locks, nulls, sized, glanced, judged, row}
+use Rattle.read.specs.Admission.{column, entry}
 use Rattle.read.specs.Handles.{smallest, handleSigns, freed, entered, wentOn, released, guardedCopy, handleOn}
 use Rattle.read.specs.Calls.{Lent, handleRule, createRule, viewRule, pairRule, startRule}
 use Rattle.read.proofs

@@ -26,8 +26,8 @@ use Rattle.read.specs.declared.Verdict.the-variants.{Admitted, Refused}
 use Rattle.read.specs.declared.Signs.{Signs}
 use Rattle.read.specs.declared.Made.{Made}
 use Rattle.read.specs.declared.Reply.{Reply}
-use Rattle.read.specs.Machine.{standing, holding, openOn, withUse, withReading, slotCount, guardCount, logWords, shut, noGuards, isOpen, standsRight, putGuard, same, firstGuard, anyOpen, allOpen, isDue, isLoad, noSlot, newSlot, isGone, underway, wholeControl, glanced, judged, fresh}
-use Rattle.read.specs.Admission.{row, column, entry}
+use Rattle.read.specs.Machine.{standing, holding, openOn, withUse, withReading, slotCount, guardCount, logWords, shut, noGuards, isOpen, standsRight, putGuard, same, firstGuard, anyOpen, allOpen, isDue, isLoad, noSlot, newSlot, isGone, underway, wholeControl, glanced, judged, fresh, row}
+use Rattle.read.specs.Admission.{column, entry}
 use Rattle.read.specs.Handles.{smallest, handleSigns, bumped, withDue, loaded, entered, wentOn, released, copyOf}
 use Rattle.read.specs.Calls.{slotAt, withSlot, refusal, Lent, lent, handleReply, firstFree, handleRule, createRule, viewRule, pairRule, startRule}
 use Rattle.table.proofs.Computes.{apart}
@@ -40,7 +40,7 @@ use Rattle.read.proofs.Promises.{HandlePromise, EitherPromise, Smallest
 use Rattle.read.proofs.Promises.{SizedPromise, GlancePromise, JudgePromise, StartPromise, CreatePromise, DropPromise, EnterPromise}
 use Rattle.read.proofs.Promises.{GoOnPromise, WasDroppedPromise, OnHandlePromise, ReleasePromise, LookUpPromise, ViewPromise}
 use Rattle.read.proofs.Promises.{PairPromise}
-use Rattle.read.proofs.Cases.{withLock}
+use Rattle.read.proofs.Cases.{stateOf, withLock}
 
 -- ---- what the witnesses are made of
 
@@ -113,10 +113,10 @@ abbrev machine : Slot → State
 machine s = withSlot 1 s fresh
 
 abbrev controlled : Control → State → State
-controlled c st = record { control = c; slots = st .slots; snapshots = st .snapshots }
+controlled c st = stateOf c (st .slots) (st .snapshots)
 
 abbrev snapped : List ℕ → State → State
-snapped es st = record { control = st .control; slots = st .slots; snapshots = es }
+snapped es st = stateOf (st .control) (st .slots) es
 
 -- idle; under way, with the lock; at take's finish; after it
 abbrev idle : Control

@@ -3,28 +3,11 @@ use Prim.Native.Nat.{ℕ, _+_, _-_}
 use mathlib.Core.Bool.{Bool, true, false, not, _||_}
 use lib.Dec.{ltb}
 use Rattle.read.specs.declared.Phase.{Phase}
-use Rattle.read.specs.declared.Phase.the-variants.{Idle, Begin, Poll, Copy, Drain, Keep, Swap, Snap, Null, Lock, LastSnap, LastPoll, Finish, Gone}
 use Rattle.read.specs.declared.Handle.{Handle}
 use Rattle.read.specs.declared.Handle.the-variants.{Drop, Enter, GoOn, Release, LookUp, WasDropped}
 use Rattle.read.specs.Machine.{isGone, underway, locks}
 
--- ---- rows and columns
-
-abbrev pub row : Phase → ℕ
-row Idle = 0
-row Begin = 1
-row (Poll k) = 2
-row Copy = 3
-row Drain = 4
-row (Keep k) = 5
-row Swap = 6
-row (Snap k) = 7
-row Null = 8
-row Lock = 9
-row (LastSnap k) = 10
-row (LastPoll k) = 11
-row Finish = 12
-row Gone = 13
+-- ---- columns
 
 -- the calls by their numbers in a schedule, 1 to 14, stand in columns 0 to 13; those on slot 0, 2 to 7, again in columns 14 to 19
 abbrev pub handleNumber : Handle → ℕ
@@ -34,6 +17,15 @@ handleNumber GoOn = 4
 handleNumber (Release g) = 5
 handleNumber (LookUp g key) = 6
 handleNumber WasDropped = 7
+
+-- the guard that it names, 0 where it names none
+abbrev pub guardNamed : Handle → ℕ
+guardNamed Drop = 0
+guardNamed Enter = 0
+guardNamed GoOn = 0
+guardNamed (Release g) = g
+guardNamed (LookUp g key) = g
+guardNamed WasDropped = 0
 
 -- by whether the slot is slot 0
 abbrev pub column : Handle → Bool → ℕ

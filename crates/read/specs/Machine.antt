@@ -103,72 +103,47 @@ newSlot = withUse true noSlot
 
 -- ---- the writer's phases
 
+-- of a phase: its row in the table of admissions, whether a call of the writer is under way, the lock held, the pointer null
+pub record Stage : Type 0 where
+  pub row : ℕ
+  pub goes : Bool
+  pub locked : Bool
+  pub null : Bool
+
+abbrev pub stage : ℕ → Bool → Bool → Bool → Stage
+stage n g l p = record { row = n; goes = g; locked = l; null = p }
+
+-- the lock is held in a publish, and from take's last snapshots to its finish; the pointer is null from take's lock step on
+abbrev pub stageOf : Phase → Stage
+stageOf Idle = stage 0 false false false
+stageOf Begin = stage 1 true false false
+stageOf (Poll k) = stage 2 true true false
+stageOf Copy = stage 3 true true false
+stageOf Drain = stage 4 true true false
+stageOf (Keep k) = stage 5 true true false
+stageOf Swap = stage 6 true true false
+stageOf (Snap k) = stage 7 true true false
+stageOf Null = stage 8 true false false
+stageOf Lock = stage 9 true false true
+stageOf (LastSnap k) = stage 10 true true true
+stageOf (LastPoll k) = stage 11 true true true
+stageOf Finish = stage 12 true true true
+stageOf Gone = stage 13 false false true
+
+abbrev pub row : Phase → ℕ
+row p = stageOf p .row
+
 abbrev pub isGone : Phase → Bool
-isGone Idle = false
-isGone Begin = false
-isGone (Poll k) = false
-isGone Copy = false
-isGone Drain = false
-isGone (Keep k) = false
-isGone Swap = false
-isGone (Snap k) = false
-isGone Null = false
-isGone Lock = false
-isGone (LastSnap k) = false
-isGone (LastPoll k) = false
-isGone Finish = false
-isGone Gone = true
+isGone p = eqb (row p) 13
 
--- a call of the writer is under way
 abbrev pub underway : Phase → Bool
-underway Idle = false
-underway Begin = true
-underway (Poll k) = true
-underway Copy = true
-underway Drain = true
-underway (Keep k) = true
-underway Swap = true
-underway (Snap k) = true
-underway Null = true
-underway Lock = true
-underway (LastSnap k) = true
-underway (LastPoll k) = true
-underway Finish = true
-underway Gone = false
+underway p = stageOf p .goes
 
--- the lock is held in a publish, and from take's last snapshots to its finish
 abbrev pub locks : Phase → Bool
-locks Idle = false
-locks Begin = false
-locks (Poll k) = true
-locks Copy = true
-locks Drain = true
-locks (Keep k) = true
-locks Swap = true
-locks (Snap k) = true
-locks Null = false
-locks Lock = false
-locks (LastSnap k) = true
-locks (LastPoll k) = true
-locks Finish = true
-locks Gone = false
+locks p = stageOf p .locked
 
--- the pointer is null from take's lock step on
 abbrev pub nulls : Phase → Bool
-nulls Idle = false
-nulls Begin = false
-nulls (Poll k) = false
-nulls Copy = false
-nulls Drain = false
-nulls (Keep k) = false
-nulls Swap = false
-nulls (Snap k) = false
-nulls Null = false
-nulls Lock = true
-nulls (LastSnap k) = true
-nulls (LastPoll k) = true
-nulls Finish = true
-nulls Gone = true
+nulls p = stageOf p .null
 
 -- a phase's position is in range: a slot's number; an operation of the log; an operation before the swap index
 abbrev pub inRange : Control → Phase → Bool

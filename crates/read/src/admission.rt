@@ -2,7 +2,8 @@
 use crate::Handle;
 use crate::Phase;
 ghost use mathlib.Core.Path.{_≡_};
-ghost use Rattle.read.specs.Admission.{row as rowRule, column as columnRule, entry as entryRule};
+ghost use Rattle.read.specs.Admission.{column as columnRule, entry as entryRule};
+ghost use Rattle.read.specs.Machine.{row as rowRule};
 
 // A row for each phase, a column for each call 1 to 14, and for calls 2 to 7 on slot 0 another: 0 is admitted, 6 not now, 7 locked.
 // After gone the writer's calls have no entry of their own: they are answered 3, which is smaller than what stands there.

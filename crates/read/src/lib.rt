@@ -200,7 +200,7 @@ fn first_free(slots: [Slot; SLOTS]) -> usize
 }
 
 // The slot in a place; past the last a free one.
-fn slot_at(st: State, slot: usize) -> Slot
+pub fn slot_at(st: State, slot: usize) -> Slot
     ensures { λ r. ⌜ r ≡ slotAt st slot ⌝ }
 {
     if SLOTS <= slot {

@@ -35,6 +35,7 @@ use Rattle.write.specs.Machine.{going, callOn, callRule}
 use Rattle.write.proofs.Verdicts.{judging, refused-mild, step-underway}
 use Rattle.write.proofs.Cases.{by, below, append-cases, open-cases, run-keeps}
 use Rattle.write.proofs.Left.{Stepped, done, held, declined, step-stepped}
+use Rattle.read.proofs.Cases.{stateOf}
 
 -- ---- the kinds of a reply
 
@@ -116,15 +117,7 @@ module _ (st : State) (l r g : List ℕ) where
   -- a slot that is put back as it was
   lifted-same : (i : ℕ) (a : Answer) → lift i st (lent (refused a (st .control) (slotAt st i) (snapAt st i)) l r g) ≡ lent (refusal a st) l r g
   lifted-same i a =
-      λ k.
-      lent
-      (record {
-        answer = a;
-        value = 0;
-        state =
-            record { control = st .control; slots = set-getD (st .slots) i noSlot k; snapshots = set-getD (st .snapshots) i 0 k };
-      })
-      l r g
+      λ k. lent (refusal a (stateOf (st .control) (set-getD (st .slots) i noSlot k) (set-getD (st .snapshots) i 0 k))) l r g
 
   kind-lift : (i : ℕ) (m : Lent Moved) → KindMove (st .control) (slotAt st i) (snapAt st i) l r g m → KindCall 13 st l r g (lift i st m)
   kind-lift i m (made z) = made z
@@ -138,14 +131,7 @@ module _ (st : State) (l r g : List ℕ) where
   replied-same :
       (i : ℕ) (a : Answer) → lent (replied i (record { answer = a; value = 0; slot = slotAt st i })) l r g ≡ lent (refusal a st) l r g
   replied-same i a =
-      λ k.
-      lent
-      (record {
-        answer = a;
-        value = 0;
-        state = record { control = st .control; slots = set-getD (st .slots) i noSlot k; snapshots = st .snapshots };
-      })
-      l r g
+      λ k. lent (refusal a (stateOf (st .control) (set-getD (st .slots) i noSlot k) (st .snapshots))) l r g
 
   kind-replied : (i : ℕ) (m : Made) → KindMade (slotAt st i) m → KindCall 13 st l r g (lent (replied i m) l r g)
   kind-replied i m (made z) = made z

@@ -29,10 +29,7 @@ use Rattle.write.proofs.Count.{left, steps}
 use Rattle.write.proofs.Cases.{going-on}
 use Rattle.write.proofs.Control.{Placed, Whole, whole-step}
 use Rattle.write.proofs.Left.{step-answer, made-unless-polls, poll-passed, poll-stopped, lastPoll-passed, lastPoll-stopped, step-lowers, idle-left, underway-left, left-idle, left-underway, left-small}
-use Rattle.read.proofs.Cases.{withLock}
-
-abbrev pub stateOf : Control → List Slot → List ℕ → State
-stateOf c ss es = record { control = c; slots = ss; snapshots = es }
+use Rattle.read.proofs.Cases.{stateOf, withLock}
 
 -- where a list is read within its length, the default does not matter
 pub getD-any {ℓ} : {A : Type ℓ} (l : List A) (i : ℕ) (d e : A) → i < length l → getD l i d ≡ getD l i e

@@ -15,13 +15,13 @@ use Rattle.read.specs.declared.State.{State}
 use Rattle.read.specs.declared.Reply.{Reply}
 use Rattle.read.specs.Machine.{slotTotal, slotCount, noSlot, underway}
 use Rattle.read.specs.Calls.{Lent, lent, slotAt}
-use Rattle.read.proofs.Cases.{getD-within}
+use Rattle.read.proofs.Cases.{stateOf, getD-within}
 use Rattle.write.specs.declared.Moved.{Moved}
 use Rattle.write.specs.Steps.{holds, stepAt, place}
 use Rattle.write.specs.Scans.{polls, haltAnswer, halted}
 use Rattle.write.specs.Runs.{snapAt, putBack, lift, stepOn}
 use Rattle.write.proofs.Control.{Placed, Whole}
-use Rattle.write.proofs.RunLaws.{stateOf, Goes, Scans, scanning, goes-made, scan-start, scan-passed, scan-stopped}
+use Rattle.write.proofs.RunLaws.{Goes, Scans, scanning, goes-made, scan-start, scan-passed, scan-stopped}
 
 placed-below : (n s : ℕ) (p : Phase) → Placed n s p → place p < slotTotal
 unfolding slotCount
@@ -46,12 +46,13 @@ place-below {c} w e = subst (λ (i : ℕ). i < slotTotal) (sym e) (placed-below 
 
 -- a move at slot i, put back
 pub step-lifted :
-    (st : State) (l r g : List ℕ) {i : ℕ} {s : Slot} {m : Moved} {l' r' g' : List ℕ} →
+    (st : State) (l r g : List ℕ) {i : ℕ} {s : Slot} {m : Moved} {l' r' g' : List ℕ} {q : Reply} →
     i ≡ place (st .control .phase) → s ≡ slotAt st i → lent m l' r' g' ≡ stepAt (st .control .phase) (st .control) s (snapAt st i) l r g →
-    lent (putBack i st m) l' r' g' ≡ stepOn st l r g
+    q ≡ putBack i st m → lent q l' r' g' ≡ stepOn st l r g
 unfolding stepOn
-step-lifted st l r g {i} p q h =
-    ap (λ (o : Lent Moved). lift i st o) (h ∙ ap (λ (s : Slot). stepAt (st .control .phase) (st .control) s (snapAt st i) l r g) q)
+step-lifted st l r g {i} {l' = l'} {r' = r'} {g' = g'} p e h x =
+    ap (λ (q : Reply). lent q l' r' g') x
+    ∙ ap (λ (o : Lent Moved). lift i st o) (h ∙ ap (λ (s : Slot). stepAt (st .control .phase) (st .control) s (snapAt st i) l r g) e)
     ∙ ap (λ (j : ℕ). lift j st (stepAt (st .control .phase) (st .control) (slotAt st j) (snapAt st j) l r g)) p
 
 -- ---- a run's loops

@@ -19,8 +19,7 @@ use Rattle.read.specs.declared.Control.{Control}
 use Rattle.read.specs.declared.Verdict.the-variants.{Admitted, Refused}
 use Rattle.read.specs.declared.State.{State}
 use Rattle.read.specs.declared.Reply.{Reply}
-use Rattle.read.specs.Machine.{standing, holding, freshControl, openOn, withReading, slotCount, logRoom, logWords, noGuards, noSlot, newSlot, underway, nulls, judged, fresh}
-use Rattle.read.specs.Admission.{row}
+use Rattle.read.specs.Machine.{standing, holding, freshControl, openOn, withReading, slotCount, logRoom, logWords, noGuards, noSlot, newSlot, underway, nulls, judged, fresh, row}
 use Rattle.read.specs.Handles.{smallest, freed, copyOf, bit}
 use Rattle.read.specs.Calls.{Lent, lent, slotAt, refusal}
 use Rattle.write.specs.declared.Moved.{Moved}
@@ -37,7 +36,7 @@ use Rattle.table.proofs.Contracts.{Words, slice}
 use Rattle.write.proofs.Computes.{rules}
 use Rattle.write.proofs.Promises.{Part, Whole, Beginning, HoldsPromise, PlacePromise, OpenOnPromise, AdvancePromise, AppendOnPromise}
 use Rattle.write.proofs.Promises.{AppendPromise, StepPromise, RunPromise, PublishPromise, TryPromise, FlushPromise, TakePromise}
-use Rattle.read.proofs.Cases.{withLock}
+use Rattle.read.proofs.Cases.{stateOf, withLock}
 
 -- ---- what the witnesses are made of
 
@@ -52,7 +51,7 @@ inside = withReading 1 (set noGuards 0 (openOn false)) Nothing newSlot
 -- the writer's own slot first, then this one and free ones
 abbrev with1 : Control → Slot → ℕ → State
 with1 c s e =
-    record { control = c; slots = newSlot ∷ s ∷ replicate (slotCount - 2) noSlot; snapshots = 0 ∷ e ∷ replicate (slotCount - 2) 0 }
+    stateOf c (newSlot ∷ s ∷ replicate (slotCount - 2) noSlot) (0 ∷ e ∷ replicate (slotCount - 2) 0)
 
 -- a copy with no pairs, and one that has key 7
 abbrev blank : Words

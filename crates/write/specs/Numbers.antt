@@ -3,9 +3,7 @@ use Prim.Native.Nat.{ℕ}
 use mathlib.Core.Bool.{Bool, true, false, _&&_}
 use lib.Dec.{eqb, leb}
 use Rattle.table.specs.Copy.{lawful}
-use Rattle.read.specs.declared.Handle.{Handle}
-use Rattle.read.specs.declared.Handle.the-variants.{Drop, Enter, GoOn, Release, LookUp, WasDropped}
-use Rattle.read.specs.Admission.{handleNumber}
+use Rattle.read.specs.Admission.{handleNumber, guardNamed}
 use Rattle.write.specs.declared.Opening.{Opening}
 use Rattle.write.specs.declared.Opening.the-variants.{Publish, Try, Flush, Take}
 use Rattle.write.specs.declared.Call.{Call}
@@ -62,17 +60,9 @@ slotOf (Open o) = 0
 slotOf Step = 0
 slotOf Run = 0
 
-abbrev pub namedGuard : Handle → ℕ
-namedGuard Drop = 0
-namedGuard Enter = 0
-namedGuard GoOn = 0
-namedGuard (Release j) = j
-namedGuard (LookUp j key) = j
-namedGuard WasDropped = 0
-
 abbrev pub guardOf : Call → ℕ
 guardOf Create = 0
-guardOf (On i h) = namedGuard h
+guardOf (On i h) = guardNamed h
 guardOf (Append kind key amount) = 0
 guardOf (Open o) = 0
 guardOf Step = 0

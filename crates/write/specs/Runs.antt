@@ -5,6 +5,8 @@ use mathlib.Core.List.{List}
 use lib.ListN.{getD, set}
 use Rattle.table.specs.Answers.{number}
 use Rattle.table.specs.declared.Answer.the-variants as answer
+use Rattle.read.specs.declared.Slot.{Slot}
+use Rattle.read.specs.declared.Control.{Control}
 use Rattle.read.specs.declared.State.{State}
 use Rattle.read.specs.declared.Reply.{Reply}
 use Rattle.read.specs.Machine.{underway}
@@ -17,13 +19,13 @@ use Rattle.write.specs.Steps.{stepAt, place}
 abbrev pub snapAt : State → ℕ → ℕ
 snapAt st i = getD (st .snapshots) i 0
 
+-- the control part, slot i and its snapshot; the rest stays
+abbrev pub withMove : ℕ → Control → Slot → ℕ → State → State
+withMove i c s e st = record { control = c; slots = set (st .slots) i s; snapshots = set (st .snapshots) i e }
+
 abbrev pub putBack : ℕ → State → Moved → Reply
 putBack i st m =
-    record {
-      answer = m .answer;
-      value = m .value;
-      state = record { control = m .control; slots = set (st .slots) i (m .slot); snapshots = set (st .snapshots) i (m .snapshot) };
-    }
+    record { answer = m .answer; value = m .value; state = withMove i (m .control) (m .slot) (m .snapshot) st }
 
 abbrev pub lift : ℕ → State → Lent Moved → Lent Reply
 lift i st m = lent (putBack i st (m .made)) (m .left) (m .right) (m .log)

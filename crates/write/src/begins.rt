@@ -26,27 +26,15 @@ ghost use Rattle.read.specs.Calls.{lent};
 ghost use Rattle.write.specs.Steps.{polling, beginning};
 ghost use Rattle.write.specs.Begins.{writerSigns, stepSigns, appended as appendedRule, appendOn, columnOf, begun as begunRule, value as valueRule, taking as takingRule, opened as openedRule, openOn};
 
+// The row of the phase after take's finish, in the table of admissions.
+const GONE: usize = 13;
+
 // ---- what speaks against a writer's call, by its column in the table of admissions
 
 fn is_gone(p: Phase) -> bool
     ensures { λ r. ⌜ r ≡ isGone p ⌝ }
 {
-    match p {
-        Phase::Idle => false,
-        Phase::Begin => false,
-        Phase::Poll(_) => false,
-        Phase::Copy => false,
-        Phase::Drain => false,
-        Phase::Keep(_) => false,
-        Phase::Swap => false,
-        Phase::Snap(_) => false,
-        Phase::Null => false,
-        Phase::Lock => false,
-        Phase::LastSnap(_) => false,
-        Phase::LastPoll(_) => false,
-        Phase::Finish => false,
-        Phase::Gone => true,
-    }
+    admission::row(p) == GONE
 }
 
 fn writer_signs(column: usize, unlawful: bool, full: bool, c: Control, s: Slot) -> Signs

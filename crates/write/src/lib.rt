@@ -15,8 +15,9 @@ use read::judge;
 use table::Answer;
 ghost use mathlib.Core.Path.{_≡_};
 ghost use mathlib.Core.Bool.{true};
-ghost use Rattle.read.specs.Machine.{wholeControl};
-ghost use Rattle.read.specs.Calls.{lent, slotAt, refusal as refusalRule};
+ghost use Prim.Native.Nat.{_<_};
+ghost use Rattle.read.specs.Machine.{slotTotal, wholeControl};
+ghost use Rattle.read.specs.Calls.{lent, refusal as refusalRule};
 ghost use Rattle.write.specs.Runs.{putBack};
 ghost use Rattle.write.specs.Machine.{going, goes, goingColumn, goingRule, callRule};
 
@@ -57,23 +58,16 @@ fn refusal(a: Answer, st: State) -> Reply
     }
 }
 
-// The writer's own slot.
-fn own(st: State) -> Slot
-    ensures { λ r. ⌜ r ≡ slotAt st 0 ⌝ }
-{
-    let slots = st.slots;
-    slots[0]
-}
-
-// What was made at the writer's own slot, put back.
-fn put_back(st: State, m: Moved) -> Reply
-    ensures { λ r. ⌜ r ≡ putBack 0 st m ⌝ }
+// What was made at slot `i`, put back.
+pub(crate) fn put_back(i: usize, st: State, m: Moved) -> Reply
+    requires { ⌜ i < slotTotal ⌝ }
+    ensures { λ r. ⌜ r ≡ putBack i st m ⌝ }
 {
     let mut slots = st.slots;
     let mut snaps = st.snapshots;
     let t = m.slot;
-    slots[0] = t;
-    snaps[0] = m.snapshot;
+    slots[i] = t;
+    snaps[i] = m.snapshot;
     let c = m.control;
     let after = State {
         control: c,
@@ -108,8 +102,18 @@ pub fn append(
     match v {
         Verdict::Admitted => {
             let snaps = st.snapshots;
-            let m = begins::append_on(kind, key, amount, c, own(st), snaps[0], left, right, log);
-            put_back(st, m)
+            let m = begins::append_on(
+                kind,
+                key,
+                amount,
+                c,
+                read::slot_at(st, 0),
+                snaps[0],
+                left,
+                right,
+                log,
+            );
+            put_back(0, st, m)
         }
         Verdict::Refused(a) => refusal(a, st),
     }
@@ -123,8 +127,8 @@ fn begin(o: Opening, st: State, left: &[u64], right: &[u64], log: &[u64]) -> Rep
     match v {
         Verdict::Admitted => {
             let snaps = st.snapshots;
-            let m = begins::open_on(o, c, own(st), snaps[0]);
-            put_back(st, m)
+            let m = begins::open_on(o, c, read::slot_at(st, 0), snaps[0]);
+            put_back(0, st, m)
         }
         Verdict::Refused(a) => refusal(a, st),
     }

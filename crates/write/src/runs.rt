@@ -1,5 +1,6 @@
 // A step and a run, on a state whose control part is whole.
 use crate::phases;
+use crate::put_back;
 use crate::steps;
 use read::Control;
 use read::Job;
@@ -33,31 +34,16 @@ fn place(c: Control) -> usize
     steps::place(p)
 }
 
-// One step: the slot that it looks at is copied out and put back.
+// One step: the slot that it looks at is taken out and put back.
 fn step_whole(st: State, left: &mut [u64], right: &mut [u64], log: &mut [u64]) -> Reply
     requires { ⌜ wholeControl (st .control) ≡ true ⌝ }
     ensures { λ r. ⌜ lent r (now (left .exit)) (now (right .exit)) (now (log .exit)) ≡ stepOn st (now (left .entry)) (now (right .entry)) (now (log .entry)) ⌝ }
 {
     let c = st.control;
-    let mut slots = st.slots;
-    let mut snaps = st.snapshots;
+    let snaps = st.snapshots;
     let i = place(c);
-    let m = steps::advance(c, slots[i], snaps[i], left, right, log);
-    let t = m.slot;
-    slots[i] = t;
-    snaps[i] = m.snapshot;
-    let d = m.control;
-    let after = State {
-        control: d,
-        slots: slots,
-        snapshots: snaps,
-    };
-    let a = m.answer;
-    Reply {
-        answer: a,
-        value: m.value,
-        state: after,
-    }
+    let m = steps::advance(c, read::slot_at(st, i), snaps[i], left, right, log);
+    put_back(i, st, m)
 }
 
 // ---- the slot scan of a run

@@ -1,6 +1,6 @@
 -- What each call answers is the first row of the table that applies.
 use Prim.Native.Nat.{ℕ, _≤_, _<_}
-use mathlib.Core.Path.{_≡_, refl, sym, ap, _∙_, subst}
+use mathlib.Core.Path.{_≡_, refl, sym, ap, _∙_}
 use mathlib.Core.Bool.{Bool, true, false, not, _&&_, _||_}
 use mathlib.Core.List.{List, [], _∷_, _++_}
 use lib.Dec.{eqb, ltb, leb}
@@ -9,7 +9,6 @@ use Rattle.table.specs.Seek.{seek}
 use Rattle.table.specs.Copy.{lawful}
 use Rattle.table.proofs.Seek.{seek-suc-here}
 use Rattle.table.proofs.Split.{split}
-use Rattle.read.specs.declared.Phase.{Phase}
 use Rattle.read.specs.declared.Phase.the-variants.{Idle}
 use Rattle.read.specs.declared.Guard.{Guard}
 use Rattle.read.specs.declared.Slot.{Slot}
@@ -34,7 +33,7 @@ use Rattle.demands.specs.Table.{least, whatComesBack, wanted, busy, lock
 use Rattle.demands.proofs.shown.Invariant.{Shape, outside, announced, inside as entered}
 use Rattle.demands.proofs.shown.Guards.{all-shut}
 use Rattle.demands.proofs.Phases.{underway-stays, gone-is, idle-is}
-use Rattle.demands.proofs.account.Control.{SteersOf, Stands}
+use Rattle.demands.proofs.account.Control.{stands-at, SteersOf}
 use Rattle.demands.proofs.account.Reader.{Reads, is-inside, is-lowest, misses, answer15}
 use Rattle.demands.proofs.account.Rows.{Agree, none as no-more, same, here, agree-least, signRows, answerNo, rows-least, entry-6, entry-7, entry-create, entry-step, entry-append, busy-is, lock-is, Row, row}
 use Rattle.demands.proofs.Booleans.{clash, and-false, or-false, or-nil}
@@ -241,7 +240,7 @@ module _ (a : Account) (c : Control) (h : SteersOf a c) (w : Whole c) where
       where
         full : c .phase ≡ Idle → (not (unswapped (a .store)) && leb logRoom (a .store .inLog)) ≡ (not (c .first) && leb logRoom (c .length))
         full q =
-            let x = subst (λ (p : Phase). Stands (c .length) (c .swapped) (a .store .inLog) (a .store .swapIndex) (a .trial) (a .gone) p) q (h .stands) in
+            let x = stands-at a h q in
             λ j. not (sym (h .first) j) && leb logRoom (sym (x .log .0) j)
 
     pub wanted-open : (o : Opening) → wanted a (Open o) ≡ answerNo (smallest (writerSigns (columnOf o) false false c s)) 0

@@ -36,7 +36,7 @@ use Rattle.write.specs.declared.Call.the-variants.{Create, On, Append, Open, St
 use Rattle.write.specs.declared.Opening.the-variants as opening
 use Rattle.write.specs.Steps.{at, polling, withLog}
 use Rattle.write.specs.Begins.{writerSigns, columnOf, logged, madeAtOnce, appendFirst, appendOn, begun, taking, opened, openOn}
-use Rattle.write.specs.Runs.{snapAt, lift}
+use Rattle.write.specs.Runs.{withMove, snapAt, lift}
 use Rattle.write.specs.Machine.{callOn}
 use Rattle.write.specs.World.{World, worldOf, reply, answerOf, valueOf}
 use Rattle.write.specs.Numbers.{isRun}
@@ -55,7 +55,7 @@ use Rattle.demands.proofs.shown.Lifts.{atSlot, slot-keeps, both-back}
 use Rattle.demands.proofs.shown.Calls.{Resting, own-quiet, first-keeps, later-keeps, publish-keeps, try-keeps, take-keeps}
 use Rattle.demands.proofs.Sound.{SoundIn}
 use Rattle.demands.proofs.account.Plan.{plan-none}
-use Rattle.demands.proofs.account.Control.{SteersOf, Stands, flush-steers, open-steers}
+use Rattle.demands.proofs.account.Control.{stands-at, SteersOf, Stands, flush-steers, open-steers}
 use Rattle.demands.proofs.account.Reader.{Reads, misses, answer15, Met, handled-met}
 use Rattle.demands.proofs.account.Rows.{answerNo}
 use Rattle.demands.proofs.account.Answers.{wanted-on, wanted-past, wanted-create, wanted-append, wanted-open}
@@ -127,6 +127,13 @@ pub loads-nothing : {x : World} (a : Account) (i : ℕ) (r : Reader) → r .load
 loads-nothing {x} a i r e h =
     subst (λ (ld : ℕ → ℕ → List Op). Inv x (seen (a .store .accepted) (a .store .atBegin) (a .store .published) ld))
     (λ z k. sym (same-loaded (a .readers) i r e k) z) h
+
+-- what is read and put back is as it was
+pub slot-same : (i : ℕ) (st : State) → withSlot i (slotAt st i) st ≡ st
+slot-same i st = simp set-getD
+
+pub move-same : (i : ℕ) (st : State) → withMove i (st .control) (slotAt st i) (snapAt st i) st ≡ st
+move-same i st = simp set-getD
 
 -- ---- a refusal is noted by nothing
 
@@ -262,7 +269,7 @@ module _ {w : World} {a : Account} (tie : Tie w a) where
         (handled-met (a .store .published) (tie .reads i) (tie .inv .each i .four) c (w .left) (w .right) (tie .inv .each i .shows) (eqb i 0) hd u))
         (λ x v.
         mild-right (On i hd) refl x (refused-mild signs x v) (want-on ∙ ap (λ y. answerNo y (answer15 (misses (a .readers i) hd (c .null)))) v)
-        (withSlot i s (w .state)) (λ z. record { control = c; slots = set-getD (w .state .slots) i noSlot z; snapshots = w .state .snapshots }))
+        (withSlot i s (w .state)) (slot-same i (w .state)))
 
   pub handle-right : (i : ℕ) (hd : Handle) → Right a (On i hd) (reply callOn (On i hd) w)
   unfolding callOn
@@ -280,15 +287,12 @@ module _ {w : World} {a : Account} (tie : Tie w a) where
 
   -- slot 0 and its snapshot put back as they were
   abbrev kept-at : Control → State
-  kept-at d = record { control = d; slots = set (w .state .slots) 0 s0; snapshots = set (w .state .snapshots) 0 e0 }
+  kept-at d = withMove 0 d s0 e0 (w .state)
 
   reads-kept : (d : Control) → ReadsAll a (kept-at d)
   reads-kept d =
       subst₂ (λ (ss : List Slot) (es : List ℕ). (i : ℕ) → Reads (a .readers i) (getD ss i noSlot) (getD es i 0))
       (sym (set-getD (w .state .slots) 0 noSlot)) (sym (set-getD (w .state .snapshots) 0 0)) (tie .reads)
-
-  kept-same : kept-at c ≡ w .state
-  kept-same = λ z. record { control = c; slots = set-getD (w .state .slots) 0 noSlot z; snapshots = set-getD (w .state .snapshots) 0 0 z }
 
   -- in phase Idle, with so many operations logged
   logged-steers : (n m : ℕ) (ops : List Op) → c .phase ≡ Idle → (c .length ≡ a .store .inLog → n ≡ m) →
@@ -297,7 +301,7 @@ module _ {w : World} {a : Account} (tie : Tie w a) where
       (withLog n (c .swapped) c)
   logged-steers n m ops q f =
       let h = tie .steers in
-      let x = subst (λ (p : Phase). Stands (c .length) (c .swapped) (a .store .inLog) (a .store .swapIndex) (a .trial) (a .gone) p) q (h .stands) in
+      let x = stands-at a h q in
       record {
         first = h .first;
         second = h .second;
@@ -323,7 +327,7 @@ module _ {w : World} {a : Account} (tie : Tie w a) where
 
     abbrev firstState : State
     firstState =
-        record { control = c; slots = set (w .state .slots) 0 (withDue ((s0 .epoch + 2) % 2 ^ 64) (s0 .due) s0); snapshots = set (w .state .snapshots) 0 e0 }
+        withMove 0 c (withDue ((s0 .epoch + 2) % 2 ^ 64) (s0 .due) s0) e0 (w .state)
 
     first-reads : (i : ℕ) → Reads (withAt 0 (turned 2 (a .readers 0 .due) (a .readers 0)) (a .readers) i) (slotAt firstState i) (snapAt firstState i)
     first-reads =
@@ -387,7 +391,7 @@ module _ {w : World} {a : Account} (tie : Tie w a) where
         by ApRight (c .first) (λ f. early-right z rest f (not-false _ (u .operation)))
         (λ f. below ApRight (c .length) logRoom (λ b. later-right z rest f b)
         (λ b. absurd (let m = roomy (c .first) f (admitted-unopposed signs v .log) in omega arith))))
-        (λ x v. mild-right (Append kind key amount) refl x (refused-mild signs x v) (want ∙ ap (λ y. answerNo y 0) v) (kept-at c) kept-same)
+        (λ x v. mild-right (Append kind key amount) refl x (refused-mild signs x v) (want ∙ ap (λ y. answerNo y 0) v) (kept-at c) (move-same 0 (w .state)))
 
   -- ---- publish, try, flush, take
 
@@ -396,7 +400,7 @@ module _ {w : World} {a : Account} (tie : Tie w a) where
 
   some-unpublished : c .phase ≡ Idle → ltb (c .swapped) (c .length) ≡ ltb 0 (unpublished (a .store))
   some-unpublished q =
-      let x = subst (λ (p : Phase). Stands (c .length) (c .swapped) (a .store .inLog) (a .store .swapIndex) (a .trial) (a .gone) p) q (tie .steers .stands) in
+      let x = stands-at a (tie .steers) q in
       go (ltb (c .swapped) (c .length)) refl ∙ (λ z. ltb 0 (x .log .0 z - x .log .1 z))
     where
       go : (b : Bool) → ltb (c .swapped) (c .length) ≡ b → ltb (c .swapped) (c .length) ≡ ltb 0 (c .length - c .swapped)
@@ -455,4 +459,4 @@ module _ {w : World} {a : Account} (tie : Tie w a) where
       let want = wanted-open a c (tie .steers) whole s0 e0 (tie .reads 0) o in
       judging (OpRight o) (smallest signs)
       (λ v. opened-right o (want ∙ ap (λ y. answerNo y 0) v) (resting (open-idle o c s0 v) (columnOf o) false false (admitted-unopposed signs v)))
-      (λ x v. mild-right (Open o) refl x (refused-mild signs x v) (want ∙ ap (λ y. answerNo y 0) v) (kept-at c) kept-same)
+      (λ x v. mild-right (Open o) refl x (refused-mild signs x v) (want ∙ ap (λ y. answerNo y 0) v) (kept-at c) (move-same 0 (w .state)))

@@ -14,8 +14,7 @@ use Rattle.read.specs.declared.Phase.the-variants.{Idle, Begin, Poll, Copy, Dra
 use Rattle.read.specs.declared.Job.{Job}
 use Rattle.read.specs.declared.Job.the-variants.{Publish, Try, TakeFirst, TakeSecond}
 use Rattle.read.specs.declared.Control.{Control}
-use Rattle.read.specs.Machine.{isGone}
-use Rattle.read.specs.Admission.{row}
+use Rattle.read.specs.Machine.{row, isGone}
 use Rattle.write.specs.declared.Moved.{Moved}
 use Rattle.write.specs.declared.Opening.{Opening}
 use Rattle.write.specs.declared.Opening.the-variants as opening
@@ -25,17 +24,11 @@ use Rattle.write.specs.Numbers.{isTry}
 use Rattle.write.proofs.Cases.{by, below, keeping-cases, draining-cases, polled-cases, polling-cases, beginning-cases, lastPolling-cases, lastSnapping-cases, snapping-cases}
 use Rattle.write.proofs.Control.{Whole, Fits, fits}
 use Rattle.demands.specs.Account.{Move, null, Store, unswapped, isOdd, Account, withPlan, makes, advanced, onSwap, asked, begins as openingOf}
-use Rattle.demands.proofs.Phases.{withJob}
+use Rattle.demands.proofs.Phases.{isTryJob, withJob}
 use Rattle.demands.proofs.account.Plan.{moveOf, plan, step-plan, not-made}
 use Rattle.demands.proofs.account.Beginnings.{Known, publish-known, try-known, take-known}
 
 -- ---- where the writer stands
-
-abbrev pub isTryJob : Job → Bool
-isTryJob Publish = false
-isTryJob Try = true
-isTryJob TakeFirst = false
-isTryJob TakeSecond = false
 
 -- n operations in the log, s of them before the swap index: while they are applied, those before it are taken off
 abbrev pub Log : Phase → ℕ → ℕ → ℕ → ℕ → Type 0
@@ -74,6 +67,12 @@ pub record Steers (t : Store) (ms : List Move) (trial taken gone : Bool) (c : Co
 
 abbrev pub SteersOf : Account → Control → Type 0
 SteersOf a c = Steers (a .store) (a .plan) (a .trial) (a .taken) (a .gone) c
+
+abbrev pub StandsOf : Account → Control → Phase → Type 0
+StandsOf a c p = Stands (c .length) (c .swapped) (a .store .inLog) (a .store .swapIndex) (a .trial) (a .gone) p
+
+pub stands-at : (a : Account) {c : Control} {p : Phase} → SteersOf a c → c .phase ≡ p → StandsOf a c p
+stands-at a {c} h e = subst (StandsOf a c) e (h .stands)
 
 -- ---- where it goes on
 
@@ -172,7 +171,7 @@ module _ (a : Account) (c : Control) (h : SteersOf a c) (w : Whole c) (early : c
   After p m = SteersOf (makes (moveOf p) (withPlan (a .trial) (plan (m .control)) a)) (m .control)
 
   abbrev At : Phase → Type 0
-  At p = Stands (c .length) (c .swapped) (a .store .inLog) (a .store .swapIndex) (a .trial) (a .gone) p
+  At p = StandsOf a c p
 
   after-poll : (held : Bool) (k : ℕ) → At (Poll k) → number (pollMove held k c s e .answer) ≡ 0 → After (Poll k) (pollMove held k c s e)
   after-poll true k x z = absurd (not-made (c .job) c s e z)
@@ -234,8 +233,8 @@ module _ (a : Account) (c : Control) (h : SteersOf a c) (w : Whole c) (early : c
 -- ---- a call that begins
 
 module _ (a : Account) (c : Control) (h : SteersOf a c) (w : Whole c) (early : c .first ≡ true → c .length ≡ 0) (idle : c .phase ≡ Idle) (s : Slot) (e : ℕ) where
-  at-idle : Stands (c .length) (c .swapped) (a .store .inLog) (a .store .swapIndex) (a .trial) (a .gone) Idle
-  at-idle = subst (λ (p : Phase). Stands (c .length) (c .swapped) (a .store .inLog) (a .store .swapIndex) (a .trial) (a .gone) p) idle (h .stands)
+  at-idle : StandsOf a c Idle
+  at-idle = stands-at a h idle
 
   known : Known (a .store) c
   known = record { first = h .first; second = h .second; inLog = at-idle .log .0; swapIndex = at-idle .log .1; early = early }
@@ -243,53 +242,27 @@ module _ (a : Account) (c : Control) (h : SteersOf a c) (w : Whole c) (early : c
   abbrev Begun : Opening → Moved → Type 0
   Begun o m = SteersOf (asked o (m .value) a) (m .control)
 
-  taking-stands : Stands (c .length) (c .swapped) (a .store .inLog) (a .store .swapIndex) false false (taking c)
-  taking-stands =
-      by (λ (p : Phase). Stands (c .length) (c .swapped) (a .store .inLog) (a .store .swapIndex) false false p) (c .first || ltb 0 (c .length))
-      (λ _. here refl refl (at-idle .log)) (λ _. record { log = tt; last = λ _. refl; over = refl })
+  abbrev Goes : Bool → Phase → Type 0
+  Goes trial p = Stands (c .length) (c .swapped) (a .store .inLog) (a .store .swapIndex) trial false p
 
-  after-open : {g : Bool} (q : Phase) → g ≡ a .gone → {trial : Bool} → Stands (c .length) (c .swapped) (a .store .inLog) (a .store .swapIndex) trial g q → Stands (c .length) (c .swapped) (a .store .inLog) (a .store .swapIndex) trial (a .gone) q
-  after-open q e x = record { log = x .log; last = x .last; over = x .over ∙ e }
+  begun-steers : (o : Opening) (p : Phase) (j : Job) → isTryJob j ≡ isTry o → plan (at p (withJob j c)) ≡ openingOf o a .plan → Goes (isTry o) p →
+      SteersOf (openingOf o a) (at p (withJob j c))
+  begun-steers o p j q e x =
+      record { first = h .first; second = h .second; side = h .side; null = h .null; tries = q; left = sym e; stands = onto (at-idle .over) x }
 
-  publish-steers : (o : Opening) → isTry o ≡ false → plan (at (beginning c) (withJob Publish c)) ≡ openingOf o a .plan → SteersOf (openingOf o a) (at (beginning c) (withJob Publish c))
-  publish-steers o q p =
-      record {
-        first = h .first;
-        second = h .second;
-        side = h .side;
-        null = h .null;
-        tries = sym q;
-        left = sym p;
-        stands = subst (λ (b : Bool). Stands (c .length) (c .swapped) (a .store .inLog) (a .store .swapIndex) b (a .gone) (beginning c)) (sym q)
-            (after-open (beginning c) (at-idle .over) (st-beginning c (a .store .inLog) (a .store .swapIndex) _ early (w .within) (at-idle .log .0) (at-idle .log .1)));
-      }
+  beginning-goes : (trial : Bool) → Goes trial (beginning c)
+  beginning-goes trial = st-beginning c (a .store .inLog) (a .store .swapIndex) trial early (w .within) (at-idle .log .0) (at-idle .log .1)
 
   pub flush-steers : SteersOf (openingOf opening.Flush a) (at (beginning c) (withJob Publish c))
-  flush-steers = publish-steers opening.Flush refl (publish-known (a .store) c known)
+  flush-steers = begun-steers opening.Flush (beginning c) Publish refl (publish-known (a .store) c known) (beginning-goes false)
 
   pub open-steers : (o : Opening) → Begun o (opened o c s e)
   unfolding opened
-  open-steers opening.Publish = publish-steers opening.Publish refl (publish-known (a .store) c known)
+  open-steers opening.Publish = begun-steers opening.Publish (beginning c) Publish refl (publish-known (a .store) c known) (beginning-goes false)
   open-steers opening.Try =
-      record {
-        first = h .first;
-        second = h .second;
-        side = h .side;
-        null = h .null;
-        tries = refl;
-        left = sym (try-known (a .store) c known);
-        stands = after-open (polling c 0) (at-idle .over) (st-polling c (a .store .inLog) (a .store .swapIndex) _ early (w .within) (at-idle .log .0) (at-idle .log .1) 0);
-      }
-  open-steers opening.Flush =
-      by (Begun opening.Flush) (ltb (c .swapped) (c .length))
-      (λ _. flush-steers) (λ _. h)
+      begun-steers opening.Try (polling c 0) Try refl (try-known (a .store) c known)
+      (st-polling c (a .store .inLog) (a .store .swapIndex) true early (w .within) (at-idle .log .0) (at-idle .log .1) 0)
+  open-steers opening.Flush = by (Begun opening.Flush) (ltb (c .swapped) (c .length)) (λ _. flush-steers) (λ _. h)
   open-steers opening.Take =
-      record {
-        first = h .first;
-        second = h .second;
-        side = h .side;
-        null = h .null;
-        tries = refl;
-        left = sym (take-known (a .store) c known);
-        stands = after-open (taking c) (at-idle .over) taking-stands;
-      }
+      begun-steers opening.Take (taking c) TakeFirst refl (take-known (a .store) c known)
+      (by (Goes false) (c .first || ltb 0 (c .length)) (λ _. here refl refl (at-idle .log)) (λ _. record { log = tt; last = λ _. refl; over = refl }))

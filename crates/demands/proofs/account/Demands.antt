@@ -41,7 +41,7 @@ use Rattle.demands.proofs.shown.Stages.{gone-stage}
 use Rattle.demands.proofs.shown.Fresh.{fresh-inv, free-everywhere}
 use Rattle.demands.proofs.Sound.{of-rule, sound-next}
 use Rattle.demands.proofs.shown.Lifts.{gone-shut}
-use Rattle.demands.proofs.account.Control.{Stands}
+use Rattle.demands.proofs.account.Control.{stands-at}
 use Rattle.demands.proofs.account.Reader.{Reads}
 use Rattle.demands.proofs.account.Rows.{answerNo, busy-is, row}
 use Rattle.demands.proofs.account.Answers.{wanted-on}
@@ -257,7 +257,7 @@ module _ {w : World} {a : Account} (h : Tie w a) where
   unused-log n x le =
       ⊎-elim
       (λ p.
-      let t = subst (λ (q : Phase). Stands (c .length) (c .swapped) (a .store .inLog) (a .store .swapIndex) (a .trial) (a .gone) q) p (h .steers .stands) in
+      let t = stands-at a (h .steers) p in
       h .inv .unused .log x (omega (arith, t .log .0)))
       (λ p. ap (λ (g : List ℕ). getD g x 0) (h .inv .spent (ap isGone p)) ∙ free-everywhere logWords x 0)
       (idle-or-gone (c .phase) (sym (busy-is a c (h .steers) (whole h)) ∙ n))

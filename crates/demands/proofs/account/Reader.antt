@@ -20,7 +20,7 @@ use Rattle.read.specs.declared.Control.{Control}
 use Rattle.read.specs.declared.Handle.{Handle}
 use Rattle.read.specs.declared.Handle.the-variants.{Drop, Enter, GoOn, Release, LookUp, WasDropped}
 use Rattle.read.specs.declared.Made.{Made}
-use Rattle.read.specs.Machine.{guardCount, shut, isOpen, standsRight, putGuard, firstGuard, anyOpen, allOpen, isDue, isLoad}
+use Rattle.read.specs.Machine.{openOn, withReading, guardCount, shut, isOpen, standsRight, putGuard, firstGuard, anyOpen, allOpen, isDue, isLoad}
 use Rattle.read.specs.Handles.{withDue, freed, guarded, loaded, entered, wentOn, released, copyOf, bit, handled, handleSigns}
 use Rattle.read.specs.Admission.{column, entry}
 use Rattle.write.specs.Steps.{holds, seen}
@@ -105,7 +105,7 @@ module _ (os : List Op) {r : Reader} {s : Slot} {e : ℕ} (h : Reads r s e) (fou
         due = refl;
         epoch = h .epoch;
         snapshot = h .snapshot;
-        guards = at-put (s .guards) four k (record { opened = true; right = right }) (has-room (s .guards) room) (λ j a b. a ≡ withAt k true (r .guards) j)
+        guards = at-put (s .guards) four k (openOn right) (has-room (s .guards) room) (λ j a b. a ≡ withAt k true (r .guards) j)
             (sym (same-at k true (r .guards))) (λ j ne. h .guards j ∙ sym (other-at k true (r .guards) j ne));
       }
 
@@ -122,7 +122,7 @@ module _ (os : List Op) {r : Reader} {s : Slot} {e : ℕ} (h : Reads r s e) (fou
     where
       go : (b u : Bool) → u ≡ b →
           Reads (elim b [ true ↦ closes j r | false ↦ turned 1 (r .due) (closes j r) ])
-          (record { used = s .used; epoch = elim u [ true ↦ s .epoch | false ↦ (s .epoch + 1) % 2 ^ 64 ]; guards = without j; due = s .due }) e
+          (withReading (elim u [ true ↦ s .epoch | false ↦ (s .epoch + 1) % 2 ^ 64 ]) (without j) (s .due) s) e
       go true true q = record { lives = h .lives; due = h .due; guards = closed j o; epoch = h .epoch; snapshot = h .snapshot }
       go true false q = clash q refl
       go false true q = clash refl q

@@ -19,7 +19,7 @@ use Rattle.read.specs.declared.Verdict.{Verdict}
 use Rattle.read.specs.declared.Verdict.the-variants.{Admitted, Refused}
 use Rattle.read.specs.declared.Signs.{Signs}
 use Rattle.read.specs.Machine.{underway, isGone, locks}
-use Rattle.read.specs.Admission.{column, entry, notNow, locked as lockedNo}
+use Rattle.read.specs.Admission.{handleNumber, column, entry, notNow, locked as lockedNo}
 use Rattle.read.specs.Handles.{given, smallest}
 use Rattle.write.specs.declared.Call.{Call}
 use Rattle.write.specs.declared.Call.the-variants.{Create, On, Append, Open, Step, Run}
@@ -176,51 +176,46 @@ lock-7 false = refl
 
 -- ---- the table of admissions, by what it asks
 
-abbrev pub ownSix : Handle → Phase → Bool
-ownSix Drop p = not (isGone p)
-ownSix Enter p = underway p
-ownSix GoOn p = underway p
-ownSix (Release j) p = underway p
-ownSix (LookUp j key) p = underway p
-ownSix WasDropped p = underway p
-
-pub entry-6 : (p : Phase) (h : Handle) (own : Bool) → eqb (entry p (column h own)) 6 ≡ (own && ownSix h p)
-unfolding entry
-entry-6 p Drop true = now-6 (not (isGone p))
-entry-6 p Drop false = lock-6 (locks p)
-entry-6 p Enter true = now-6 (underway p)
-entry-6 p Enter false = refl
-entry-6 p GoOn true = now-6 (underway p)
-entry-6 p GoOn false = refl
-entry-6 p (Release j) true = now-6 (underway p)
-entry-6 p (Release j) false = refl
-entry-6 p (LookUp j key) true = now-6 (underway p)
-entry-6 p (LookUp j key) false = refl
-entry-6 p WasDropped true = now-6 (underway p)
-entry-6 p WasDropped false = refl
-
 abbrev pub isDrop : Handle → Bool
-isDrop Drop = true
-isDrop Enter = false
-isDrop GoOn = false
-isDrop (Release j) = false
-isDrop (LookUp j key) = false
-isDrop WasDropped = false
+isDrop h = eqb (handleNumber h) 2
+
+-- what a drop asks, and what any other call on a handle asks, of slot 0 and of another
+abbrev asked : Bool → Bool → Phase → ℕ
+asked drops own p =
+    elim own [ true ↦ notNow (elim drops [ true ↦ not (isGone p) | false ↦ underway p ]) | false ↦ elim drops [ true ↦ lockedNo (locks p) | false ↦ 0 ] ]
+
+entry-asks : (p : Phase) (h : Handle) (own : Bool) → entry p (column h own) ≡ asked (isDrop h) own p
+unfolding entry
+entry-asks p Drop true = refl
+entry-asks p Drop false = refl
+entry-asks p Enter true = refl
+entry-asks p Enter false = refl
+entry-asks p GoOn true = refl
+entry-asks p GoOn false = refl
+entry-asks p (Release j) true = refl
+entry-asks p (Release j) false = refl
+entry-asks p (LookUp j key) true = refl
+entry-asks p (LookUp j key) false = refl
+entry-asks p WasDropped true = refl
+entry-asks p WasDropped false = refl
+
+pub entry-6 : (p : Phase) (h : Handle) (own : Bool) →
+    eqb (entry p (column h own)) 6 ≡ (own && elim (isDrop h) [ true ↦ not (isGone p) | false ↦ underway p ])
+entry-6 p h own = ap (λ (n : ℕ). eqb n 6) (entry-asks p h own) ∙ go (isDrop h) own
+  where
+    go : (d o : Bool) → eqb (asked d o p) 6 ≡ (o && elim d [ true ↦ not (isGone p) | false ↦ underway p ])
+    go d true = now-6 (elim d [ true ↦ not (isGone p) | false ↦ underway p ])
+    go true false = lock-6 (locks p)
+    go false false = refl
 
 pub entry-7 : (p : Phase) (h : Handle) (own : Bool) → eqb (entry p (column h own)) 7 ≡ (isDrop h && (not own && locks p))
-unfolding entry
-entry-7 p Drop true = now-7 (not (isGone p))
-entry-7 p Drop false = lock-7 (locks p)
-entry-7 p Enter true = now-7 (underway p)
-entry-7 p Enter false = refl
-entry-7 p GoOn true = now-7 (underway p)
-entry-7 p GoOn false = refl
-entry-7 p (Release j) true = now-7 (underway p)
-entry-7 p (Release j) false = refl
-entry-7 p (LookUp j key) true = now-7 (underway p)
-entry-7 p (LookUp j key) false = refl
-entry-7 p WasDropped true = now-7 (underway p)
-entry-7 p WasDropped false = refl
+entry-7 p h own = ap (λ (n : ℕ). eqb n 7) (entry-asks p h own) ∙ go (isDrop h) own
+  where
+    go : (d o : Bool) → eqb (asked d o p) 7 ≡ (d && (not o && locks p))
+    go true true = now-7 (not (isGone p))
+    go true false = lock-7 (locks p)
+    go false true = now-7 (underway p)
+    go false false = refl
 
 pub entry-create : (p : Phase) → eqb (entry p 0) 7 ≡ locks p
 unfolding entry

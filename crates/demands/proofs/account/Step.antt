@@ -41,11 +41,12 @@ use Rattle.demands.proofs.shown.Guards.{at-set, same-at, other-at}
 use Rattle.demands.proofs.shown.Invariant.{seen, seenOf, afterMove, Inv}
 use Rattle.demands.proofs.shown.Steps.{Next, stepOn-keeps}
 use Rattle.demands.proofs.account.Plan.{moveOf, plan, plan-head, step-plan, not-made}
-use Rattle.demands.proofs.account.Control.{SteersOf, Stands, isTryJob, isLast, step-steers}
+use Rattle.demands.proofs.account.Control.{StandsOf, SteersOf, Stands, isLast, step-steers}
 use Rattle.demands.proofs.account.Reader.{Reads, is-delays, seen-reads}
 use Rattle.demands.proofs.account.Rows.{answerNo, isBusy, plan-busy}
 use Rattle.demands.proofs.account.Answers.{stops, wanted-step}
-use Rattle.demands.proofs.account.Calls.{InvOf, ReadsAll, Tie, Right, value-done, slot-reads, same-loaded, refused-right, mild-right, whole, len, early}
+use Rattle.demands.proofs.account.Calls.{move-same, InvOf, ReadsAll, Tie, Right, value-done, slot-reads, same-loaded, refused-right, mild-right, whole, len, early}
+use Rattle.demands.proofs.Phases.{isTryJob}
 use Rattle.demands.proofs.Booleans.{clash}
 
 -- ---- the polled slot
@@ -256,7 +257,7 @@ module _ {w : World} {a : Account} (tie : Tie w a) where
     idle-stands Finish j b e x = absurd (omega arith)
     idle-stands Gone j b e x = absurd (omega arith)
 
-    declined-right : wanted a Step ≡ 14 → Stands (c .length) (c .swapped) (a .store .inLog) (a .store .swapIndex) (a .trial) (a .gone) Idle →
+    declined-right : wanted a Step ≡ 14 → StandsOf a c Idle →
         (k : ℕ) → (let o = lift k st (lent (declinedMove c (slotAt st k) (snapAt st k)) (w .left) (w .right) (w .log)) in
         InvOf (worldOf o) a → Right a Step o)
     unfolding wantedValue
@@ -277,7 +278,7 @@ module _ {w : World} {a : Account} (tie : Tie w a) where
         subst (λ (x : Lent Moved). Right a Step (lift (place (c .phase)) st x)) (sym e) (made-right z (sym (answer-is v) ∙ z))
     advanced-right v m e held =
         refused-right tie Step refl answer.Held (omega arith) (omega arith) (sym (answer-is v) ∙ ap (λ (x : Lent Moved). number (x .made .answer)) (sym e)) _
-        (λ z. record { control = c; slots = set-getD (st .slots) (place (c .phase)) noSlot z; snapshots = set-getD (st .snapshots) (place (c .phase)) 0 z })
+        (move-same (place (c .phase)) st)
     advanced-right v m e declined =
         let z : number (after (c .phase) .answer) ≡ 14 = ap (λ (x : Lent Moved). number (x .made .answer)) (sym e) in
         declined-right (sym (answer-is v) ∙ z)

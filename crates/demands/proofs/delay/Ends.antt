@@ -12,7 +12,6 @@ use borrow.Author.Tests.{eq-eqb, ne-eqb, eqb-true, eqb-false, ltb-false}
 use Rattle.table.specs.Order.{Op}
 use Rattle.table.proofs.Split.{split}
 use Rattle.read.specs.declared.Control.{Control}
-use Rattle.read.specs.declared.Phase.{Phase}
 use Rattle.read.specs.declared.Phase.the-variants.{Idle}
 use Rattle.read.specs.declared.Reply.{Reply}
 use Rattle.read.specs.declared.Handle.the-variants.{Release}
@@ -35,7 +34,7 @@ use Rattle.demands.proofs.Booleans.{clash, or-false, or-true}
 use Rattle.demands.proofs.Sides.{readCopy, writeCopy}
 use Rattle.demands.proofs.shown.Invariant.{Stage, early, late, opsFrom, opsOf}
 use Rattle.demands.proofs.account.Moves.{isSwap, isFinish, each-move, advanced-rest, advanced-trial, ran-keeps}
-use Rattle.demands.proofs.account.Control.{Stands}
+use Rattle.demands.proofs.account.Control.{StandsOf, stands-at}
 use Rattle.demands.proofs.account.Rows.{isBusy, idle-step, declined-tries, writes-idle, busy-is}
 use Rattle.demands.proofs.account.Calls.{Tie, whole}
 use Rattle.demands.proofs.account.Demands.{right, all-call, all-steps, all-tell, all-told, can-look}
@@ -340,8 +339,8 @@ module _ {w : World} {a : Account} (h : Tie w a) (o : Opening) (z : wanted a (Op
   idle : c h .phase ≡ Idle
   idle = begins-idle h o z
 
-  known : Stands (c h .length) (c h .swapped) (s .inLog) (s .swapIndex) (a .trial) (a .gone) Idle
-  known = subst (λ (p : Phase). Stands (c h .length) (c h .swapped) (s .inLog) (s .swapIndex) (a .trial) (a .gone) p) idle (h .steers .stands)
+  known : StandsOf a (c h) Idle
+  known = stands-at a (h .steers) idle
 
   -- with nothing in the log, all that was accepted is published
   all-published : unswapped s ≡ false → s .inLog ≡ 0 → s .published ≡ s .accepted

@@ -35,7 +35,7 @@ use Rattle.demands.proofs.shown.Slot.{within-same, twice-view, weaken}
 use Rattle.demands.proofs.shown.Unused.{clear-operated, clear-logged}
 use Rattle.demands.proofs.shown.Log.{length-ops, ops-logged}
 use Rattle.demands.proofs.shown.Stages.{Begins, begins-polling, begins-beginning, begins-taking, stage-polling, stage-beginning, begin-stage, take-stage, log-stage, apply-stage}
-use Rattle.demands.proofs.shown.Lifts.{ctl, withControl, slotBack, snapBack, StageIn, snap-back, both-back, slot-keeps, control-keeps, write-keeps}
+use Rattle.demands.proofs.shown.Lifts.{ctl, world, withControl, slotBack, snapBack, StageIn, snap-back, both-back, slot-keeps, control-keeps, write-keeps}
 use Rattle.demands.proofs.Sound.{SoundIn, sound-slot}
 use Rattle.demands.proofs.shown.Steps.{fit-write}
 use Rattle.demands.proofs.Phases.{withJob, gone-is}
@@ -115,12 +115,7 @@ module _ {w : World} {t : Seen} (sound : SoundIn w) (inv : Inv w t) where
           let ops : opsFrom (n + 1) 0 g ≡ opsOf w ++ (op ∷ []) =
           ap (λ (x : ℕ). opsFrom x 0 g) (add-one n) ∙ ops-logged n kind key amount (w .log) (omega arith) (sound .good .words .log) in
           both-back 0
-          (record {
-            state = record { control = withLog (n + 1) (ctl w .swapped) (ctl w); slots = w .state .slots; snapshots = w .state .snapshots };
-            left = w .left;
-            right = w .right;
-            log = g;
-          })
+          (world (withLog (n + 1) (ctl w .swapped) (ctl w)) (w .state .slots) (w .state .snapshots) (w .left) (w .right) g)
           (record {
             each = inv .each;
             own = λ u. not-underway u;

@@ -19,7 +19,7 @@ use Rattle.read.specs.declared.Control.{Control}
 use Rattle.read.specs.declared.Handle.{Handle}
 use Rattle.read.specs.declared.Handle.the-variants.{Drop, Enter, GoOn, Release, LookUp, WasDropped}
 use Rattle.read.specs.declared.Made.{Made}
-use Rattle.read.specs.Machine.{slotCount, guardCount, shut, isOpen, standsRight, putGuard, firstGuard, anyOpen, allOpen, isDue, isLoad, newSlot}
+use Rattle.read.specs.Machine.{openOn, withReading, slotCount, guardCount, shut, isOpen, standsRight, putGuard, firstGuard, anyOpen, allOpen, isDue, isLoad, newSlot}
 use Rattle.read.specs.Handles.{withDue, freed, guarded, loaded, entered, wentOn, released, copyOf, mistimed, handleSigns, handled}
 use Rattle.read.specs.Admission.{column, entry}
 use Rattle.write.specs.Steps.{holds, seen}
@@ -110,7 +110,7 @@ pub guarded-view :
     View right h i snap l r (withAt (firstGuard false (s .guards)) pb f) (guarded right s)
 guarded-view {right} {h} {i} {snap} {l} {r} {f} {s} v u od room pb read new-held =
     let k : ℕ = firstGuard false (s .guards) in
-    let new : Guard = record { opened = true; right = right } in
+    let new : Guard = openOn right in
     let lt : k < guardCount = has-room (s .guards) room in
     record {
       four = put-four (s .guards) (v .four) k new lt;
@@ -133,7 +133,7 @@ released-view {right} {h} {i} {snap} {l} {r} {f} {s} j v o =
     let (u, od, du) = guard-inside (v .shape) j o in
     let lt : j < guardCount = open-below (s .guards) j o in
     let gs : List Guard = putGuard j shut (s .guards) in
-    by (λ (e : ℕ). View right h i snap l r f (record { used = s .used; epoch = e; guards = gs; due = s .due })) (anyOpen gs)
+    by (λ (e : ℕ). View right h i snap l r f (withReading e gs (s .due) s)) (anyOpen gs)
     (λ q. record {
       four = put-four (s .guards) (v .four) j shut lt;
       shape = inside u od du q;

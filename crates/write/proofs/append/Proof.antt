@@ -11,8 +11,8 @@ judge-requires c κs = search needs
 enum-told : tie.Need-enum-told
 enum-told c = search needs
 
-own-requires : tie.Need-own-requires
-own-requires c κs = search needs
+slot-at-requires : tie.Need-slot-at-requires
+slot-at-requires c κs = search needs
 
 array-read-append-on : tie.Need-array-read-append-on
 array-read-append-on c = search needs
@@ -42,7 +42,7 @@ returns : tie.Need-returns
 returns c =
     let a = c .before .before .before .before .before .before .before .before .before .before .before .before .before .before .before .before .before .before .before .before .before .before .before .args in
     call-admitted (Append (a .kind) (a .key) (a .amount)) (a .st) (a .left .now) (a .right .now) (a .log .now) (c .before .before .before .before .before .before .before .before .before .before .before .before .before .before .before .judge .ensures) (c .before .before .before .before .before .before .before .before .before .before .before .before .before .enum-told .given .1)
-    (append-lifted (a .st) (a .left .now) (a .right .now) (a .log .now) (a .kind) (a .key) (a .amount) (c .before .before .before .before .before .before .before .before .before .before .before .own .ensures) (c .before .before .before .before .before .before .before .append-on .ensures) (c .put-back .ensures))
+    (append-lifted (a .st) (a .left .now) (a .right .now) (a .log .now) (a .kind) (a .key) (a .amount) (c .before .before .before .before .before .before .before .before .before .before .before .slot-at .ensures) (c .before .before .before .before .before .before .before .append-on .ensures) (c .put-back .ensures))
 
 same-length-4 : tie.Need-same-length-4
 same-length-4 c = search needs
@@ -64,7 +64,7 @@ append-spec =
     (tie.spec
     judge-requires
     enum-told
-    own-requires
+    slot-at-requires
     array-read-append-on
     append-on-requires
     put-back-requires

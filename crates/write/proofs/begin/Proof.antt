@@ -11,8 +11,8 @@ judge-requires c κs = search needs
 enum-told : tie.Need-enum-told
 enum-told c = search needs
 
-own-requires : tie.Need-own-requires
-own-requires c κs = search needs
+slot-at-requires : tie.Need-slot-at-requires
+slot-at-requires c κs = search needs
 
 array-read-open-on : tie.Need-array-read-open-on
 array-read-open-on c = search needs
@@ -33,7 +33,7 @@ returns : tie.Need-returns
 returns c =
     let a = c .before .before .before .before .before .before .before .before .before .before .before .args in
     call-admitted (Open (a .o)) (a .st) (a .left .now) (a .right .now) (a .log .now) (c .before .before .before .before .before .before .judge .ensures) (c .before .before .before .before .enum-told .given .1)
-    (open-lifted (a .st) (a .left .now) (a .right .now) (a .log .now) (a .o) (c .before .before .own .ensures) (c .before .open-on .ensures) (c .put-back .ensures))
+    (open-lifted (a .st) (a .left .now) (a .right .now) (a .log .now) (a .o) (c .before .before .slot-at .ensures) (c .before .open-on .ensures) (c .put-back .ensures))
 
 returns-2 : tie.Need-returns-2
 returns-2 c =
@@ -46,7 +46,7 @@ begin-spec =
     (tie.spec
     judge-requires
     enum-told
-    own-requires
+    slot-at-requires
     array-read-open-on
     open-on-requires
     put-back-requires

@@ -10,8 +10,8 @@ use lib.Dec.{lit<, lit≤}
 use lib.ListN.{getD}
 use Rattle.read.specs.declared.Phase.{Phase}
 use Rattle.read.specs.declared.Phase.the-variants.{Idle, Begin, Poll, Copy, Drain, Keep, Swap, Snap, Null, Lock, LastSnap, LastPoll, Finish, Gone}
-use Rattle.read.specs.Machine.{underway}
-use Rattle.read.specs.Admission.{row, notNow, entry}
+use Rattle.read.specs.Machine.{underway, row}
+use Rattle.read.specs.Admission.{notNow, entry}
 use Rattle.read.proofs.Table.{every, rowRight, at-table}
 use Rattle.read.proofs.admission.entry.Statement.{statement}
 use Rattle.read.proofs.admission.entry.Tie as tie

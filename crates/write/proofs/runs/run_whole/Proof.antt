@@ -10,9 +10,10 @@ use Rattle.write.specs.Runs.{runOn}
 use Rattle.write.proofs.Count.{left as leftOf}
 use Rattle.write.proofs.Turns.{holds-there, Running, Scanned, scan-begins, scan-on, scan-ends, runs-scanned, runs-stepped}
 use Rattle.write.proofs.Control.{control-whole, whole-control}
-use Rattle.write.proofs.RunLaws.{stateOf, goes-start, goes-few, goes-ended}
+use Rattle.write.proofs.RunLaws.{goes-start, goes-few, goes-ended}
 use Rattle.write.proofs.runs.run_whole.Statement.{statement}
 use Rattle.write.proofs.runs.run_whole.Tie as tie
+use Rattle.read.proofs.Cases.{stateOf}
 
 abbrev Inv-loop : tie.InvT-loop
 Inv-loop left right log c₀ slots snaps n₀ answer₀ i₀ c n answer i = Scanned c₀ n₀ i₀ answer₀ c n i answer slots snaps left right log
