@@ -1,11 +1,14 @@
 -- Worlds on which no call is refused by the judgement.
-use mathlib.Core.Path.{_≡_, sym, subst}
+use Prim.Native.Nat.{ℕ}
+use mathlib.Core.Path.{_≡_, sym, subst, _∙_}
+use lib.ListN.{length-set}
+use Rattle.read.specs.declared.Slot.{Slot}
 use Rattle.read.specs.declared.Reply.{Reply}
-use Rattle.read.specs.Calls.{Lent}
+use Rattle.read.specs.Calls.{Lent, withSlot}
 use Rattle.write.specs.declared.Call.{Call}
 use Rattle.write.specs.Machine.{callOn, callRule}
-use Rattle.write.proofs.NeverBroken.{Sound, call-made, sound-call}
 use Rattle.write.specs.World.{World, reply, next}
+use Rattle.write.proofs.NeverBroken.{Sound, call-made, sound-call}
 
 abbrev pub SoundIn : World → Type 0
 SoundIn w = Sound (w .state) (w .left) (w .right) (w .log)
@@ -19,3 +22,7 @@ of-rule P k w h x = subst P (sym (below k w h)) x
 
 pub sound-next : (k : Call) (w : World) → SoundIn w → SoundIn (next callRule k w)
 sound-next k w h = sound-call k (w .state) (w .left) (w .right) (w .log) h
+
+-- another slot
+pub sound-slot : {w : World} (i : ℕ) (s : Slot) → SoundIn w → Sound (withSlot i s (w .state)) (w .left) (w .right) (w .log)
+sound-slot {w} i s h = record { good = h .good; slots = length-set (w .state .slots) i s ∙ h .slots; snapshots = h .snapshots }

@@ -1,0 +1,462 @@
+-- The account and the world: every call but step and run answers what the account says, and keeps them alike.
+use Prim.Native.Nat.{ℕ, zero, suc, _+_, _-_, _%_, _^_, _≤_, _<_}
+use mathlib.Core.Path.{_≡_, refl, sym, ap, _∙_, subst, subst₂}
+use mathlib.Core.Logic.{_≢_}
+use mathlib.Core.Bool.{Bool, true, false, not, _&&_}
+use mathlib.Core.List.{List, []}
+use native.Mathlib.Omega.{arith}
+use native.Mathlib.Decide.{ℕ-discrete}
+use lib.ListN.{length, getD, set}
+use lib.Seq.{set-getD}
+use lib.Dec.{eqb, ltb, leb}
+use borrow.Author.Tests.{ne-eqb, lt-ltb, le-ltb, ltb-true, ltb-false, leb-false, not-false}
+use Rattle.table.specs.declared.Answer.{Answer}
+use Rattle.table.specs.declared.Answer.the-variants as answer
+use Rattle.table.specs.Answers.{number}
+use Rattle.table.specs.Order.{Op}
+use Rattle.table.specs.Copy.{lawful}
+use Rattle.table.specs.Seek.{seek}
+use Rattle.read.specs.declared.Phase.{Phase}
+use Rattle.read.specs.declared.Phase.the-variants.{Idle}
+use Rattle.read.specs.declared.Slot.{Slot}
+use Rattle.read.specs.declared.Control.{Control}
+use Rattle.read.specs.declared.State.{State}
+use Rattle.read.specs.declared.Made.{Made}
+use Rattle.read.specs.declared.Reply.{Reply}
+use Rattle.read.specs.declared.Handle.{Handle}
+use Rattle.read.specs.declared.Job.the-variants as job
+use Rattle.read.specs.Machine.{slotCount, logRoom, noSlot, newSlot, underway}
+use Rattle.read.specs.Admission.{entry, handleNumber}
+use Rattle.read.specs.Handles.{smallest, handleSigns, handleOn, handled, withDue, bit}
+use Rattle.read.specs.Calls.{Lent, lent, slotAt, withSlot, createSigns, firstFree}
+use Rattle.write.specs.declared.Moved.{Moved}
+use Rattle.write.specs.declared.Opening.{Opening}
+use Rattle.write.specs.declared.Call.{Call}
+use Rattle.write.specs.declared.Call.the-variants.{Create, On, Append, Open, Step, Run}
+use Rattle.write.specs.declared.Opening.the-variants as opening
+use Rattle.write.specs.Steps.{at, polling, withLog}
+use Rattle.write.specs.Begins.{writerSigns, columnOf, logged, madeAtOnce, appendFirst, appendOn, begun, taking, opened, openOn}
+use Rattle.write.specs.Runs.{withMove, snapAt, lift}
+use Rattle.write.specs.Machine.{callOn}
+use Rattle.write.specs.World.{World, worldOf, reply, answerOf, valueOf}
+use Rattle.write.specs.Numbers.{isRun}
+use Rattle.write.proofs.Cases.{by, below}
+use Rattle.write.proofs.Verdicts.{judging, Unopposed, admitted-unopposed, Refusal, refused-mild, append-idle, open-idle}
+use Rattle.write.proofs.Control.{Whole, some-slot}
+use Rattle.demands.specs.Account.{Reader, Account, withAt, newReader, turned, spoke, unswapped, unpublished, accepts, ofStore, ofReader, missed, withPlan, noted}
+use Rattle.demands.specs.Table.{wanted, wantedValue, worth, worthOn}
+use Rattle.demands.proofs.Phases.{withJob}
+use Rattle.demands.proofs.shown.Invariant.{Held, reachAt, seen, seenOf, Quiet, ViewOf, Inv}
+use Rattle.demands.proofs.shown.Guards.{at-set, none-open, same-at, other-at, new-shut}
+use Rattle.demands.proofs.shown.Slot.{rowAfter, handled-view, new-view, reload}
+use Rattle.demands.proofs.shown.Log.{length-ops}
+use Rattle.demands.proofs.shown.Stages.{before-null, early-empty}
+use Rattle.demands.proofs.shown.Lifts.{atSlot, slot-keeps, both-back}
+use Rattle.demands.proofs.shown.Calls.{Resting, own-quiet, first-keeps, later-keeps, publish-keeps, try-keeps, take-keeps}
+use Rattle.demands.proofs.Sound.{SoundIn}
+use Rattle.demands.proofs.account.Plan.{plan-none}
+use Rattle.demands.proofs.account.Control.{stands-at, SteersOf, Stands, flush-steers, open-steers}
+use Rattle.demands.proofs.account.Reader.{Reads, misses, answer15, Met, handled-met}
+use Rattle.demands.proofs.account.Rows.{answerNo}
+use Rattle.demands.proofs.account.Answers.{wanted-on, wanted-past, wanted-create, wanted-append, wanted-open}
+use Rattle.demands.proofs.Booleans.{clash, or-false, and-false}
+
+abbrev pub ReadsAll : Account → State → Type 0
+ReadsAll a st = (i : ℕ) → Reads (a .readers i) (slotAt st i) (snapAt st i)
+
+abbrev pub InvOf : World → Account → Type 0
+InvOf w a = Inv w (seenOf a)
+
+pub record Tie (w : World) (a : Account) : Type 0 where
+  pub sound : SoundIn w
+  pub inv : InvOf w a
+  pub steers : SteersOf a (w .state .control)
+  pub reads : ReadsAll a (w .state)
+
+-- what comes of a call
+pub record Right (a : Account) (k : Call) (o : Lent Reply) : Type 0 where
+  pub answer : answerOf o ≡ wanted a k
+  pub value : valueOf o ≡ wantedValue a k
+  pub inv : InvOf (worldOf o) (noted k (answerOf o) (valueOf o) a)
+  pub steers : SteersOf (noted k (answerOf o) (valueOf o) a) (o .made .state .control)
+  pub reads : ReadsAll (noted k (answerOf o) (valueOf o) a) (o .made .state)
+
+-- ---- values
+
+pub value-done : (a : Account) (k : Call) (v : ℕ) → wanted a k ≡ 0 → v ≡ worth a k → v ≡ wantedValue a k
+unfolding wantedValue
+value-done a k v e q = q ∙ ap (λ (n : ℕ). elim n [ zero ↦ worth a k | suc m ↦ bit (eqb m 13) ]) (sym e)
+
+pub value-other : (a : Account) (k : Call) (n : ℕ) → wanted a k ≡ n → 3 ≤ n → n ≢ 14 → 0 ≡ wantedValue a k
+unfolding wantedValue
+value-other a k n e lt ne = go n lt ne ∙ ap (λ (n : ℕ). elim n [ zero ↦ worth a k | suc m ↦ bit (eqb m 13) ]) (sym e)
+  where
+    go : (n : ℕ) → 3 ≤ n → n ≢ 14 → _≡_ {A = ℕ} 0 (elim n [ zero ↦ worth a k | suc m ↦ bit (eqb m 13) ])
+    go zero lt ne = absurd (omega arith)
+    go (suc m) lt ne = ap bit (sym (ne-eqb m 13 (λ q. ne (omega arith))))
+
+-- answers 0 and 15
+value-fifteen :
+    (a : Account) (k : Call) (b : Bool) (v x : ℕ) → x ≡ answer15 b → wanted a k ≡ answer15 b →
+    v ≡ elim x [ zero ↦ worth a k | suc n ↦ 0 ] → v ≡ wantedValue a k
+value-fifteen a k true v x e z q = (q ∙ ap (λ (y : ℕ). elim y [ zero ↦ worth a k | suc n ↦ 0 ]) e) ∙ value-other a k 15 z (omega arith) (λ y. omega arith)
+value-fifteen a k false v x e z q = value-done a k v z (q ∙ ap (λ (y : ℕ). elim y [ zero ↦ worth a k | suc n ↦ 0 ]) e)
+
+-- ---- one slot is stored
+
+module _ (st : State) (a : Account) (len : length (st .slots) ≡ slotCount) (h : ReadsAll a st) (i : ℕ) (lt : i < slotCount) where
+  pub slot-reads : (r : Reader) (s : Slot) → Reads r s (snapAt st i) → (k : ℕ) → Reads (withAt i r (a .readers) k) (getD (set (st .slots) i s) k noSlot) (snapAt st k)
+  slot-reads r s x =
+      at-set (λ k y. Reads (withAt i r (a .readers) k) y (snapAt st k)) (st .slots) i s noSlot (omega arith)
+      (subst (λ (q : Reader). Reads q s (snapAt st i)) (sym (same-at i r (a .readers))) x)
+      (λ k ne. subst (λ (q : Reader). Reads q (slotAt st k) (snapAt st k)) (sym (other-at i r (a .readers) k ne)) (h k))
+
+-- what the guards loaded, where one reader is changed
+module _ (rs : ℕ → Reader) (i : ℕ) where
+  pub other-loaded : (r : Reader) (k : ℕ) → k ≢ i → withAt i r rs k .loaded ≡ rs k .loaded
+  other-loaded r k ne = ap (λ (q : Reader). q .loaded) (other-at i r rs k ne)
+
+  -- by something that leaves it alone
+  pub same-loaded : (r : Reader) → r .loaded ≡ rs i .loaded → (k : ℕ) → withAt i r rs k .loaded ≡ rs k .loaded
+  same-loaded r e k = elim (ℕ-discrete k i) [
+    | yes q ↦ subst (λ (z : ℕ). withAt i r rs z .loaded ≡ rs z .loaded) (sym q) (ap (λ (x : Reader). x .loaded) (same-at i r rs) ∙ e)
+    | no ne ↦ other-loaded r k ne
+  ]
+
+pub loads-nothing : {x : World} (a : Account) (i : ℕ) (r : Reader) → r .loaded ≡ a .readers i .loaded → InvOf x a → InvOf x (ofReader i (λ _. r) a)
+loads-nothing {x} a i r e h =
+    subst (λ (ld : ℕ → ℕ → List Op). Inv x (seen (a .store .accepted) (a .store .atBegin) (a .store .published) ld))
+    (λ z k. sym (same-loaded (a .readers) i r e k) z) h
+
+-- what is read and put back is as it was
+pub slot-same : (i : ℕ) (st : State) → withSlot i (slotAt st i) st ≡ st
+slot-same i st = simp set-getD
+
+pub move-same : (i : ℕ) (st : State) → withMove i (st .control) (slotAt st i) (snapAt st i) st ≡ st
+move-same i st = simp set-getD
+
+-- ---- a refusal is noted by nothing
+
+at-self : {A : Type 0} (i : ℕ) (f : ℕ → A) (k : ℕ) → withAt i (f i) f k ≡ f k
+at-self i f k = elim (ℕ-discrete k i) [
+  | yes e ↦ subst (λ (z : ℕ). withAt i (f i) f z ≡ f z) (sym e) (same-at i (f i) f)
+  | no ne ↦ other-at i (f i) f k ne
+]
+
+self-noted : (i : ℕ) (a : Account) → ofReader i (λ r. r) a ≡ a
+self-noted i a =
+    λ z. record { readers = λ k. at-self i (a .readers) k z; store = a .store; plan = a .plan; trial = a .trial; taken = a .taken; gone = a .gone }
+
+noted-refused : (k : Call) (a : Account) → isRun k ≡ false → (n : ℕ) → 3 ≤ n → n ≤ 13 → noted k n 0 a ≡ a
+noted-refused k a q zero lt le = absurd (omega arith)
+noted-refused Create a q (suc n) lt le = refl
+noted-refused (On i h) a q (suc n) lt le =
+    let other : (eqb (handleNumber h) 4 && eqb (suc n) 15) ≡ false =
+    ap (λ (b : Bool). eqb (handleNumber h) 4 && b) (ne-eqb (suc n) 15 (λ z. omega arith)) ∙ and-false (eqb (handleNumber h) 4) in
+    ap (λ (b : Bool). ofReader i (λ r. elim b [ true ↦ missed r | false ↦ r ]) a) other ∙ self-noted i a
+noted-refused (Append kind key amount) a q (suc n) lt le = refl
+noted-refused (Open o) a q (suc n) lt le = refl
+noted-refused Step a q (suc n) lt le = ap (λ (b : Bool). elim b [ true ↦ withPlan (a .trial) [] a | false ↦ a ]) (ne-eqb (suc n) 14 (λ z. omega arith))
+noted-refused Run a q (suc n) lt le = clash refl q
+
+module _ {w : World} {a : Account} (tie : Tie w a) where
+  abbrev c : Control
+  c = w .state .control
+
+  pub whole : Whole c
+  whole = tie .sound .good .whole
+
+  pub len : length (w .state .slots) ≡ slotCount
+  len = tie .sound .slots
+
+  pub early : c .first ≡ true → c .length ≡ 0
+  early f = sym (length-ops (c .length) 0 (w .log)) ∙ ap length (early-empty f (tie .inv .stage))
+
+  -- ---- a refusal
+
+  pub refused-right :
+      (k : Call) → isRun k ≡ false → (x : Answer) → 3 ≤ number x → number x ≤ 13 → wanted a k ≡ number x → (st : State) → st ≡ w .state →
+      Right a k (lent (record { answer = x; value = 0; state = st }) (w .left) (w .right) (w .log))
+  refused-right k q x lt le z st e =
+      let n = noted-refused k a q (number x) lt le in
+      record {
+        answer = sym z;
+        value = value-other a k (number x) z lt (λ y. omega arith);
+        inv = subst₂ (λ (b : Account) (s : State). InvOf (record { state = s; left = w .left; right = w .right; log = w .log }) b) (sym n) (sym e) (tie .inv);
+        steers = subst₂ (λ (b : Account) (s : State). SteersOf b (s .control)) (sym n) (sym e) (tie .steers);
+        reads = subst₂ ReadsAll (sym n) (sym e) (tie .reads);
+      }
+
+  pub mild-right :
+      (k : Call) → isRun k ≡ false → (x : Answer) → Refusal x → wanted a k ≡ number x → (st : State) → st ≡ w .state →
+      Right a k (lent (record { answer = x; value = 0; state = st }) (w .left) (w .right) (w .log))
+  mild-right k q x m z st e = refused-right k q x (m .0) (omega arith) z st e
+
+  -- slot i and its reader are changed
+  slot-inv : (i : ℕ) → i < slotCount → (r : Reader) (s : Slot) → (i ≡ 0 → underway (c .phase) ≡ true → Quiet s) → ViewOf w i (r .loaded) s →
+      InvOf (atSlot i s w) (ofReader i (λ _. r) a)
+  slot-inv i lt r s quiet v =
+      slot-keeps (tie .sound) (tie .inv) i lt s (λ k. withAt i r (a .readers) k .loaded) (other-loaded (a .readers) i r) quiet
+      (subst (λ (q : Reader). ViewOf w i (q .loaded) s) (sym (same-at i r (a .readers))) v)
+
+  -- ---- create
+
+  pub create-right : Right a Create (reply callOn Create w)
+  unfolding callOn
+  create-right =
+      judging (λ (o : Reply). Right a Create (lent o (w .left) (w .right) (w .log))) (smallest (createSigns c (firstFree (w .state .slots))))
+      (λ v.
+      let z = want ∙ ap (λ x. answerNo x 0) v in
+      record {
+        answer = sym z;
+        value = value-done a Create (firstFree (w .state .slots)) z free;
+        inv = slot-inv (firstFree (w .state .slots)) (leb-false slotCount (firstFree (w .state .slots)) (admitted-unopposed (createSigns c (firstFree (w .state .slots))) v .slots)) (newReader (a .readers (firstFree (w .state .slots)))) newSlot
+            (λ _ _. record { idle = refl; alone = none-open }) new-view;
+        steers = tie .steers;
+        reads = slot-reads (w .state) a len (tie .reads) (firstFree (w .state .slots)) (leb-false slotCount (firstFree (w .state .slots)) (admitted-unopposed (createSigns c (firstFree (w .state .slots))) v .slots)) (newReader (a .readers (firstFree (w .state .slots)))) newSlot
+            (record { lives = refl; due = refl; guards = new-shut; epoch = refl; snapshot = tie .reads (firstFree (w .state .slots)) .snapshot });
+      })
+      (λ x v. mild-right Create refl x (refused-mild (createSigns c (firstFree (w .state .slots))) x v) (want ∙ ap (λ y. answerNo y 0) v) (w .state) refl)
+    where
+      free : firstFree (w .state .slots) ≡ seek (λ i. not (a .readers i .lives)) 0 slotCount
+      free = λ z. seek (λ i. not (tie .reads i .lives z)) 0 slotCount
+
+      want : wanted a Create ≡ answerNo (smallest (createSigns c (firstFree (w .state .slots)))) 0
+      want = wanted-create a c (tie .steers) whole (firstFree (w .state .slots)) free
+
+  -- ---- a call on a handle
+
+  module _ (i : ℕ) (lt : i < slotCount) (hd : Handle) where
+    abbrev s : Slot
+    s = slotAt (w .state) i
+
+    abbrev pub OnRight : Made → Type 0
+    OnRight m = Right a (On i hd) (lent (record { answer = m .answer; value = m .value; state = withSlot i (m .slot) (w .state) }) (w .left) (w .right) (w .log))
+
+    want-on : wanted a (On i hd) ≡ answerNo (smallest (handleSigns c (eqb i 0) s hd)) (answer15 (misses (a .readers i) hd (c .null)))
+    want-on = wanted-on a c (tie .steers) whole i lt s (snapAt (w .state) i) (tie .reads i) (tie .inv .each i .shape) hd
+
+    met-right : (m : Made) → wanted a (On i hd) ≡ answer15 (misses (a .readers i) hd (c .null)) →
+        (i ≡ 0 → underway (c .phase) ≡ true → Quiet (m .slot)) →
+        ViewOf w i (rowAfter hd (number (m .answer)) (m .value) (a .store .published) (a .readers i .loaded)) (m .slot) →
+        Met (a .store .published) (tie .reads i) (tie .inv .each i .four) (spoke hd (number (m .answer)) (m .value) (a .store .published) (a .readers i))
+        (misses (a .readers i) hd (c .null)) (worthOn hd (c .null) (a .readers i)) hd m →
+        OnRight m
+    met-right m z quiet view x =
+        record {
+          answer = x .answer ∙ sym z;
+          value = value-fifteen a (On i hd) (misses (a .readers i) hd (c .null)) (m .value) (number (m .answer)) (x .answer) z
+              (x .value ∙ ap (λ (b : Bool). elim (number (m .answer)) [ zero ↦ worthOn hd b (a .readers i) | suc n ↦ 0 ]) (tie .steers .null));
+          inv = slot-inv i lt (spoke hd (number (m .answer)) (m .value) (a .store .published) (a .readers i)) (m .slot) quiet
+              (reload view (λ j o. x .row j (sym (x .reads .guards j) ∙ o)));
+          steers = tie .steers;
+          reads = slot-reads (w .state) a len (tie .reads) i lt _ (m .slot) (x .reads);
+        }
+
+    unwaited : c .null ≡ false → Held (reachAt (c .phase) .emptied) (reachAt (c .phase) .resnapped) i (snapAt (w .state) i) (s .epoch)
+    unwaited z = let (e, r) = before-null (c .phase) (sym (whole .pointed) ∙ z) in (omega arith, λ lt. absurd (omega arith))
+
+    on-right : OnRight (handleOn c (eqb i 0) s hd (w .left) (w .right))
+    unfolding handleOn
+    on-right =
+        let signs = handleSigns c (eqb i 0) s hd in
+        judging OnRight (smallest signs)
+        (λ v.
+        let u = admitted-unopposed signs v in
+        met-right (handled c s hd (w .left) (w .right)) (want-on ∙ ap (λ y. answerNo y (answer15 (misses (a .readers i) hd (c .null)))) v)
+        (own-quiet (tie .sound) (tie .inv) i hd (handled c s hd (w .left) (w .right) .slot) u)
+        (handled-view c (a .store .published) (tie .inv .read) (tie .inv .each i) (not-false _ (u .slot)) unwaited (eqb i 0) hd u)
+        (handled-met (a .store .published) (tie .reads i) (tie .inv .each i .four) c (w .left) (w .right) (tie .inv .each i .shows) (eqb i 0) hd u))
+        (λ x v.
+        mild-right (On i hd) refl x (refused-mild signs x v) (want-on ∙ ap (λ y. answerNo y (answer15 (misses (a .readers i) hd (c .null)))) v)
+        (withSlot i s (w .state)) (slot-same i (w .state)))
+
+  pub handle-right : (i : ℕ) (hd : Handle) → Right a (On i hd) (reply callOn (On i hd) w)
+  unfolding callOn
+  handle-right i hd =
+      below (λ (o : Reply). Right a (On i hd) (lent o (w .left) (w .right) (w .log))) i slotCount (λ lt. on-right i lt hd)
+      (λ le. mild-right (On i hd) refl answer.NoSlot (omega arith, omega arith) (wanted-past a c (tie .steers) whole i le hd) (w .state) refl)
+
+  -- ---- the writer's calls that are made at once
+
+  abbrev s0 : Slot
+  s0 = slotAt (w .state) 0
+
+  abbrev e0 : ℕ
+  e0 = snapAt (w .state) 0
+
+  -- slot 0 and its snapshot put back as they were
+  abbrev kept-at : Control → State
+  kept-at d = withMove 0 d s0 e0 (w .state)
+
+  reads-kept : (d : Control) → ReadsAll a (kept-at d)
+  reads-kept d =
+      subst₂ (λ (ss : List Slot) (es : List ℕ). (i : ℕ) → Reads (a .readers i) (getD ss i noSlot) (getD es i 0))
+      (sym (set-getD (w .state .slots) 0 noSlot)) (sym (set-getD (w .state .snapshots) 0 0)) (tie .reads)
+
+  -- in phase Idle, with so many operations logged
+  logged-steers : (n m : ℕ) (ops : List Op) → c .phase ≡ Idle → (c .length ≡ a .store .inLog → n ≡ m) →
+      SteersOf
+      (ofStore (λ x. record { accepted = ops; atBegin = x .atBegin; published = x .published; inLog = m; swapIndex = x .swapIndex; swaps = x .swaps; synced = x .synced }) a)
+      (withLog n (c .swapped) c)
+  logged-steers n m ops q f =
+      let h = tie .steers in
+      let x = stands-at a h q in
+      record {
+        first = h .first;
+        second = h .second;
+        side = h .side;
+        null = h .null;
+        tries = h .tries;
+        left = h .left ∙ plan-none c (ap underway q) ∙ sym (plan-none (withLog n (c .swapped) c) (ap underway q));
+        stands = subst (λ (p : Phase). Stands n (c .swapped) m (a .store .swapIndex) (a .trial) (a .gone) p) (sym q)
+            (record { log = (f (x .log .0), x .log .1); last = x .last; over = x .over });
+      }
+
+  -- in phase Idle, with slot 0 at rest
+  resting : c .phase ≡ Idle → (column : ℕ) (bad full : Bool) → Unopposed (writerSigns column bad full c s0) → Resting (tie .sound) (tie .inv)
+  resting q column bad full u =
+      record { idle = q; quiet = record { idle = or-false (eqb (entry (c .phase) column) 6) _ (u .timely) .1; alone = u .guards } }
+
+  module _ (kind key amount : ℕ) where
+    abbrev op : Op
+    op = record { kind = kind; key = key; amount = amount }
+
+    abbrev ApRight : Lent Moved → Type 0
+    ApRight m = Right a (Append kind key amount) (lift 0 (w .state) m)
+
+    abbrev firstState : State
+    firstState =
+        withMove 0 c (withDue ((s0 .epoch + 2) % 2 ^ 64) (s0 .due) s0) e0 (w .state)
+
+    first-reads : (i : ℕ) → Reads (withAt 0 (turned 2 (a .readers 0 .due) (a .readers 0)) (a .readers) i) (slotAt firstState i) (snapAt firstState i)
+    first-reads =
+        subst (λ (es : List ℕ). (i : ℕ) → Reads (withAt 0 (turned 2 (a .readers 0 .due) (a .readers 0)) (a .readers) i) (slotAt firstState i) (getD es i 0))
+        (sym (set-getD (w .state .snapshots) 0 0))
+        (slot-reads (w .state) a len (tie .reads) 0 some-slot _ _
+        (let h = tie .reads 0 in
+        record { lives = h .lives; due = h .due; guards = h .guards; epoch = omega (arith, h .epoch); snapshot = h .snapshot }))
+
+    -- by whether a swap came before
+    abbrev byFirst : Bool → Account
+    byFirst b = elim b [ true ↦ ofReader 0 (λ r. turned 2 (r .due) r) (ofStore (accepts 0 op) a) | false ↦ ofStore (accepts 1 op) a ]
+
+    module _ (z : wanted a (Append kind key amount) ≡ 0) (rest : Resting (tie .sound) (tie .inv)) where
+      q : c .phase ≡ Idle
+      q = rest .idle
+
+      early-right : c .first ≡ true → lawful kind key amount ≡ true → ApRight (appendFirst kind key amount c s0 e0 (w .left) (w .right) (w .log))
+      early-right f law =
+          let u : true ≡ unswapped (a .store) = sym f ∙ tie .steers .first in
+          record {
+            answer = sym z;
+            value = value-done a (Append kind key amount) 0 z refl;
+            steers = subst (λ (b : Bool). SteersOf (byFirst b) c) u (logged-steers (c .length) (a .store .inLog + 0) _ q (λ e. omega arith));
+            reads = subst (λ (b : Bool). ReadsAll (byFirst b) firstState) u first-reads;
+            inv = subst (λ (b : Bool). InvOf (worldOf (lift 0 (w .state) (appendFirst kind key amount c s0 e0 (w .left) (w .right) (w .log)))) (byFirst b)) u
+                (loads-nothing (ofStore (accepts 0 op) a) 0 (turned 2 (a .readers 0 .due) (a .readers 0)) refl (first-keeps (tie .sound) (tie .inv) rest kind key amount f law));
+          }
+
+      later-right : c .first ≡ false → c .length < logRoom →
+          ApRight (lent (madeAtOnce (withLog (c .length + 1) (c .swapped) c) s0 e0) (w .left) (w .right) (logged (c .length) kind key amount (w .log)))
+      later-right f lt =
+          let u : false ≡ unswapped (a .store) = sym f ∙ tie .steers .first in
+          record {
+            answer = sym z;
+            value = value-done a (Append kind key amount) 0 z refl;
+            steers = subst (λ (b : Bool). SteersOf (byFirst b) (withLog (c .length + 1) (c .swapped) c)) u
+                (logged-steers (c .length + 1) (a .store .inLog + 1) _ q (λ e. omega arith));
+            reads = subst (λ (b : Bool). ReadsAll (byFirst b) (kept-at (withLog (c .length + 1) (c .swapped) c))) u
+                (reads-kept (withLog (c .length + 1) (c .swapped) c));
+            inv = subst
+                (λ (b : Bool). InvOf (worldOf (lift 0 (w .state) (lent (madeAtOnce (withLog (c .length + 1) (c .swapped) c) s0 e0) (w .left) (w .right) (logged (c .length) kind key amount (w .log))))) (byFirst b))
+                u (later-keeps (tie .sound) (tie .inv) rest kind key amount f lt);
+          }
+
+    roomy : (f : Bool) → f ≡ false → (not f && leb logRoom (c .length)) ≡ false → c .length < logRoom
+    roomy true q h = clash refl q
+    roomy false q h = leb-false logRoom (c .length) h
+
+    pub append-right : Right a (Append kind key amount) (reply callOn (Append kind key amount) w)
+    unfolding callOn appendOn
+    append-right =
+        let full = not (c .first) && leb logRoom (c .length) in
+        let signs = writerSigns 7 (not (lawful kind key amount)) full c s0 in
+        let want = wanted-append a c (tie .steers) whole s0 e0 (tie .reads 0) kind key amount in
+        judging ApRight (smallest signs)
+        (λ v.
+        let z = want ∙ ap (λ y. answerNo y 0) v in
+        let u = admitted-unopposed signs v in
+        let rest = resting (append-idle (not (lawful kind key amount)) full c s0 v) 7 (not (lawful kind key amount)) full u in
+        by ApRight (c .first) (λ f. early-right z rest f (not-false _ (u .operation)))
+        (λ f. below ApRight (c .length) logRoom (λ b. later-right z rest f b)
+        (λ b. absurd (let m = roomy (c .first) f (admitted-unopposed signs v .log) in omega arith))))
+        (λ x v. mild-right (Append kind key amount) refl x (refused-mild signs x v) (want ∙ ap (λ y. answerNo y 0) v) (kept-at c) (move-same 0 (w .state)))
+
+  -- ---- publish, try, flush, take
+
+  abbrev OpRight : Opening → Moved → Type 0
+  OpRight o m = Right a (Open o) (lift 0 (w .state) (lent m (w .left) (w .right) (w .log)))
+
+  some-unpublished : c .phase ≡ Idle → ltb (c .swapped) (c .length) ≡ ltb 0 (unpublished (a .store))
+  some-unpublished q =
+      let x = stands-at a (tie .steers) q in
+      go (ltb (c .swapped) (c .length)) refl ∙ (λ z. ltb 0 (x .log .0 z - x .log .1 z))
+    where
+      go : (b : Bool) → ltb (c .swapped) (c .length) ≡ b → ltb (c .swapped) (c .length) ≡ ltb 0 (c .length - c .swapped)
+      go true e = e ∙ sym (lt-ltb 0 (c .length - c .swapped) (omega (arith, ltb-true (c .swapped) (c .length) e)))
+      go false e = e ∙ sym (le-ltb 0 (c .length - c .swapped) (omega (arith, ltb-false (c .swapped) (c .length) e)))
+
+  opened-right : (o : Opening) → wanted a (Open o) ≡ 0 → Resting (tie .sound) (tie .inv) → OpRight o (opened o c s0 e0)
+  unfolding opened
+  opened-right opening.Publish z rest =
+      record {
+        answer = sym z;
+        value = value-done a (Open opening.Publish) 0 z refl;
+        steers = open-steers a c (tie .steers) whole early (rest .idle) s0 e0 opening.Publish;
+        reads = reads-kept (begun c);
+        inv = publish-keeps (tie .sound) (tie .inv) rest;
+      }
+  opened-right opening.Try z rest =
+      record {
+        answer = sym z;
+        value = value-done a (Open opening.Try) 0 z refl;
+        steers = open-steers a c (tie .steers) whole early (rest .idle) s0 e0 opening.Try;
+        reads = reads-kept (at (polling c 0) (withJob job.Try c));
+        inv = try-keeps (tie .sound) (tie .inv) rest;
+      }
+  opened-right opening.Flush z rest =
+      by (OpRight opening.Flush) (ltb (c .swapped) (c .length))
+      (λ e.
+      record {
+        answer = sym z;
+        value = value-done a (Open opening.Flush) 1 z (sym (ap bit (sym (some-unpublished (rest .idle)) ∙ e)));
+        steers = flush-steers a c (tie .steers) whole early (rest .idle) s0 e0;
+        reads = reads-kept (begun c);
+        inv = publish-keeps (tie .sound) (tie .inv) rest;
+      })
+      (λ e.
+      record {
+        answer = sym z;
+        value = value-done a (Open opening.Flush) 0 z (sym (ap bit (sym (some-unpublished (rest .idle)) ∙ e)));
+        steers = tie .steers;
+        reads = reads-kept c;
+        inv = both-back 0 w (tie .inv);
+      })
+  opened-right opening.Take z rest =
+      record {
+        answer = sym z;
+        value = value-done a (Open opening.Take) 0 z refl;
+        steers = open-steers a c (tie .steers) whole early (rest .idle) s0 e0 opening.Take;
+        reads = reads-kept (at (taking c) (withJob job.TakeFirst c));
+        inv = take-keeps (tie .sound) (tie .inv) rest;
+      }
+
+  pub open-right : (o : Opening) → Right a (Open o) (reply callOn (Open o) w)
+  unfolding callOn openOn
+  open-right o =
+      let signs = writerSigns (columnOf o) false false c s0 in
+      let want = wanted-open a c (tie .steers) whole s0 e0 (tie .reads 0) o in
+      judging (OpRight o) (smallest signs)
+      (λ v. opened-right o (want ∙ ap (λ y. answerNo y 0) v) (resting (open-idle o c s0 v) (columnOf o) false false (admitted-unopposed signs v)))
+      (λ x v. mild-right (Open o) refl x (refused-mild signs x v) (want ∙ ap (λ y. answerNo y 0) v) (kept-at c) (move-same 0 (w .state)))

@@ -1,0 +1,3 @@
+-- Demand 1: what is refused, and that a refusal changes nothing.
+pub mod Judged
+pub mod Refused

@@ -1,0 +1,8 @@
+-- Wrong machines, and that a statement is false of each.
+pub mod Machines
+pub mod Histories
+pub mod Refusals
+pub mod Demands
+pub mod FullLog
+pub mod Follows
+pub mod Builder

@@ -1,0 +1,45 @@
+-- The builder of wrong machines, given the rules' own step, is the rules: so it meets all that they meet.
+use Prim.Native.Nat.{ℕ}
+use mathlib.Core.Path.{_≡_, refl, sym, subst}
+use mathlib.Core.List.{List}
+use Rattle.read.specs.declared.State.{State}
+use Rattle.write.specs.declared.Call.{Call}
+use Rattle.write.specs.declared.Call.the-variants.{Create, On, Append, Open, Step, Run}
+use Rattle.write.specs.Steps.{stepAt}
+use Rattle.write.specs.Runs.{stepOn, runWhile, runOn}
+use Rattle.write.specs.Machine.{callOn, callRule}
+use Rattle.demands.specs.Demand1.{Demand1}
+use Rattle.demands.specs.Demands.{Demands}
+use Rattle.demands.specs.Follows.{Follows}
+use Rattle.demands.specs.KnownEnds.{KnownEnds}
+use Rattle.demands.proofs.wrong.Machines.{stepBy, withStep}
+use Rattle.demands.proofs.refusal.Refused.{demand1}
+use Rattle.demands.proofs.account.Demands.{demands}
+use Rattle.demands.proofs.delay.Ends.{follows}
+use Rattle.demands.proofs.KnownEnds.{known-ends}
+
+-- ---- the machine
+
+pub builder : (k : Call) (st : State) (l r g : List ℕ) → withStep stepAt k st l r g ≡ callRule k st l r g
+unfolding withStep callRule callOn stepBy stepOn runOn runWhile
+builder Create st l r g = refl
+builder (On i h) st l r g = refl
+builder (Append kind key amount) st l r g = refl
+builder (Open o) st l r g = refl
+builder Step st l r g = refl
+builder Run st l r g = refl
+
+same-machine : callRule ≡ withStep stepAt
+same-machine = λ i k st l r g. sym (builder k st l r g) i
+
+pub builder-1 : Demand1 (withStep stepAt)
+builder-1 = subst Demand1 same-machine demand1
+
+pub builder-demands : Demands (withStep stepAt)
+builder-demands = subst Demands same-machine demands
+
+pub builder-follows : Follows (withStep stepAt)
+builder-follows = subst Follows same-machine follows
+
+pub builder-ends : KnownEnds (withStep stepAt)
+builder-ends = subst KnownEnds same-machine known-ends
