@@ -17,15 +17,15 @@ use Rattle.read.specs.declared.Guard.{Guard}
 use Rattle.read.specs.declared.Slot.{Slot}
 use Rattle.read.specs.declared.Control.{Control}
 use Rattle.read.specs.declared.Handle.{Handle}
-use Rattle.read.specs.declared.Handle.the-variants.{GoOn, LookUp}
+use Rattle.read.specs.declared.Handle.the-variants.{LookUp}
 use Rattle.read.specs.declared.Verdict.the-variants.{Admitted, Refused}
 use Rattle.read.specs.declared.State.{State}
 use Rattle.read.specs.declared.Made.{Made}
 use Rattle.read.specs.declared.Reply.{Reply}
-use Rattle.read.specs.Machine.{withReading, slotCount, newSlot, fresh, logRoom, logWords, guardCount, shut, isOpen, standsRight, putGuard, firstGuard, anyOpen, allOpen, isLoad, wholeControl, sized, glanced, judged, firstUnlawful}
-use Rattle.read.specs.Handles.{copyOf, guardedCopy, bumped, withDue, guarded, loaded, entered, released, lacksRoom, smallest, handleSigns, handled, handleOn}
+use Rattle.read.specs.Machine.{withReading, slotCount, newSlot, fresh, logRoom, logWords, guardCount, shut, isOpen, standsRight, putGuard, firstGuard, anyOpen, wholeControl, sized, glanced, judged, firstUnlawful}
+use Rattle.read.specs.Handles.{copyOf, guardedCopy, bumped, withDue, guarded, loaded, entered, released, smallest, handleSigns, handled, handleOn}
 use Rattle.read.specs.Calls.{slotAt, withSlot, refusal, lent, firstFree, createSigns, handleReply, handleRule, createReply, createRule, throughGuard, throughRule, startRule}
-use Rattle.read.proofs.Tests.{and-left, and-right, and-false}
+use Rattle.read.proofs.Tests.{and-left, and-right}
 use Rattle.read.proofs.Verdicts.{refused-not, admitted-unopposed}
 
 -- a state by its parts
@@ -106,18 +106,6 @@ module _ (j : ℕ) (s : Slot) {x : Guard} {gs : List Guard} {b : Bool} (e : x �
   pub released-last : {d : ℕ} {r : Slot} → b ≡ false → d ≡ bumped (s .epoch) → r ≡ withReading d gs (s .due) s → r ≡ released j s
   released-last o u h =
       h ∙ (λ i. withReading (u i) (gs-is i) (s .due) s) ∙ sym (rw (ap anyOpen (sym gs-is) ∙ sym q ∙ o, released))
-
--- ---- room for a guard
-
-module _ (null : Bool) (s : Slot) where
-  pub room-null : null ≡ true → lacksRoom GoOn null s ≡ false
-  room-null e = rw e (and-false (isLoad (s .due)))
-
-  pub room-load : isLoad (s .due) ≡ true → null ≡ false → lacksRoom GoOn null s ≡ allOpen (s .guards)
-  room-load e n = rw (e, n)
-
-  pub room-none : isLoad (s .due) ≡ false → lacksRoom GoOn null s ≡ false
-  room-none e = rw e
 
 -- ---- the judgement
 

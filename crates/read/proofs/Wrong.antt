@@ -26,7 +26,7 @@ use Rattle.read.specs.declared.Verdict.the-variants.{Admitted, Refused}
 use Rattle.read.specs.declared.Made.{Made}
 use Rattle.read.specs.declared.Reply.{Reply}
 use Rattle.read.specs.Machine.{standing, holding, openOn, withUse, withReading, slotCount, guardCount, logWords, shut, noGuards, isOpen, standsRight, putGuard, same, firstGuard, anyOpen, allOpen, isDue, isLoad, noSlot, newSlot, isGone, underway, wholeControl, glanced, judged, fresh, row}
-use Rattle.read.specs.Admission.{column, entry}
+use Rattle.read.specs.Admission.{handleNumber, column, entry}
 use Rattle.read.specs.Handles.{mistimed, smallest, handleSigns, bumped, withDue, loaded, entered, wentOn, released, copyOf}
 use Rattle.read.specs.Calls.{slotAt, withSlot, refusal, Lent, lent, handleReply, firstFree, handleRule, createRule, viewRule, pairRule, startRule}
 use Rattle.table.proofs.Computes.{apart}
@@ -371,7 +371,7 @@ freeServes-wrong h = apart verdict refl (h idle false noSlot Enter refl)
 
 -- a larger number wins
 abbrev larger : Judgement
-larger c own s h = elim (mistimed h (s .due)) [ true ↦ Refused answer.NotNow | false ↦ smallest (handleSigns c own s h) ]
+larger c own s h = elim (mistimed (handleNumber h) (s .due)) [ true ↦ Refused answer.NotNow | false ↦ smallest (handleSigns c own s h) ]
 
 larger-wrong : VerdictPromise larger → ⊥
 unfolding rules

@@ -2,7 +2,7 @@
 use crate::Handle;
 use crate::Phase;
 ghost use mathlib.Core.Path.{_≡_};
-ghost use Rattle.read.specs.Admission.{column as columnRule, entry as entryRule};
+ghost use Rattle.read.specs.Admission.{handleNumber, guardNamed, column as columnRule, entry as entryRule};
 ghost use Rattle.read.specs.Machine.{row as rowRule};
 
 // What the entries say: not now, locked.
@@ -60,6 +60,34 @@ pub fn entry(p: Phase, column: usize) -> u8
         return ADMITS[i][column];
     }
     ADMITS[i][19]
+}
+
+// A call on a handle by its number in a schedule.
+pub(crate) fn number(h: Handle) -> usize
+    ensures { λ r. ⌜ r ≡ handleNumber h ⌝ }
+{
+    match h {
+        Handle::Drop => 2,
+        Handle::Enter => 3,
+        Handle::GoOn => 4,
+        Handle::Release(_) => 5,
+        Handle::LookUp(_, _) => 6,
+        Handle::WasDropped => 7,
+    }
+}
+
+// The guard that it names, 0 where it names none.
+pub(crate) fn guard_named(h: Handle) -> usize
+    ensures { λ r. ⌜ r ≡ guardNamed h ⌝ }
+{
+    match h {
+        Handle::Drop => 0,
+        Handle::Enter => 0,
+        Handle::GoOn => 0,
+        Handle::Release(j) => j,
+        Handle::LookUp(j, _) => j,
+        Handle::WasDropped => 0,
+    }
 }
 
 // The column of a call on a handle; `own`: on slot 0.

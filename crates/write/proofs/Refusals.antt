@@ -20,7 +20,7 @@ use Rattle.read.specs.declared.Handle.the-variants.{Drop, Enter, GoOn, Release,
 use Rattle.read.specs.declared.Made.{Made}
 use Rattle.read.specs.declared.Reply.{Reply}
 use Rattle.read.specs.declared.Verdict.the-variants.{Admitted}
-use Rattle.read.specs.Machine.{slotCount, noSlot, anyOpen, underway, judged}
+use Rattle.read.specs.Machine.{slotCount, noSlot, anyOpen, underway, judged, place}
 use Rattle.read.specs.Handles.{smallest, handleSigns, loaded, wentOn, handled, handleOn}
 use Rattle.read.specs.Calls.{Lent, lent, slotAt, withSlot, refusal, handleReply, createReply, createSigns, firstFree}
 use Rattle.write.specs.declared.Moved.{Moved}
@@ -28,7 +28,7 @@ use Rattle.write.specs.declared.Opening.{Opening}
 use Rattle.write.specs.declared.Opening.the-variants as opening
 use Rattle.write.specs.declared.Call.{Call}
 use Rattle.write.specs.declared.Call.the-variants.{Create, On, Append, Open, Step, Run}
-use Rattle.write.specs.Steps.{refused, stepAt, place}
+use Rattle.write.specs.Steps.{refused, stepAt}
 use Rattle.write.specs.Begins.{stepSigns, appendOn, openOn, opened}
 use Rattle.write.specs.Runs.{snapAt, lift, stepOn, enough, runOn}
 use Rattle.write.specs.Machine.{going, callOn, callRule}

@@ -19,12 +19,12 @@ use Rattle.read.specs.declared.Control.{Control}
 use Rattle.read.specs.declared.State.{State}
 use Rattle.read.specs.declared.Reply.{Reply}
 use Rattle.read.specs.declared.Verdict.the-variants.{Admitted}
-use Rattle.read.specs.Machine.{slotCount, noSlot, underway}
+use Rattle.read.specs.Machine.{slotCount, noSlot, underway, place}
 use Rattle.read.specs.Handles.{smallest, freed, bit}
 use Rattle.read.specs.Calls.{Lent, lent, slotAt}
 use Rattle.write.specs.declared.Moved.{Moved}
 use Rattle.write.specs.declared.Call.the-variants.{Step}
-use Rattle.write.specs.Steps.{holds, seen as sees, place, pollMove, lastPollMove, stepAt}
+use Rattle.write.specs.Steps.{holds, seen as sees, pollMove, lastPollMove, stepAt}
 use Rattle.write.specs.Begins.{stepSigns}
 use Rattle.write.specs.Scans.{polls}
 use Rattle.write.specs.Runs.{snapAt, lift, stepOn}

@@ -8,13 +8,12 @@ use Rattle.table.proofs.Split.{split}
 use Rattle.read.specs.declared.Reply.{Reply}
 use Rattle.read.specs.declared.Verdict.{Verdict}
 use Rattle.read.specs.declared.Verdict.the-variants.{Admitted, Refused}
-use Rattle.read.specs.Machine.{underway}
+use Rattle.read.specs.Machine.{underway, place}
 use Rattle.read.specs.Admission.{entry}
 use Rattle.read.specs.Handles.{smallest}
 use Rattle.read.specs.Calls.{Lent, slotAt}
 use Rattle.write.specs.declared.Call.{Call}
 use Rattle.write.specs.declared.Call.the-variants.{Step, Run}
-use Rattle.write.specs.Steps.{place}
 use Rattle.write.specs.Begins.{stepSigns}
 use Rattle.write.specs.Runs.{snapAt, stepOn}
 use Rattle.write.specs.Machine.{callOn, callRule, going}
