@@ -1,7 +1,8 @@
 -- Which call each phase of the writer admits: 0 is admitted, 6 not now, 7 locked.
 use Prim.Native.Nat.{ℕ, _+_, _-_}
 use mathlib.Core.Bool.{Bool, true, false, not, _||_}
-use lib.Dec.{ltb}
+use mathlib.Core.List.{List, _∷_, _++_}
+use lib.ListN.{getD, replicate}
 use Rattle.read.specs.declared.Phase.{Phase}
 use Rattle.read.specs.declared.Handle.{Handle}
 use Rattle.read.specs.declared.Handle.the-variants.{Drop, Enter, GoOn, Release, LookUp, WasDropped}
@@ -48,23 +49,14 @@ abbrev pub locked : Bool → ℕ
 locked true = 7
 locked false = 0
 
--- create and drop wait for the lock; the handle calls on other slots are always admitted; the writer's calls begin where none is
--- under way, and step and run go on where one is; slot 0 is the writer's own: dropped after gone alone, and left alone under way
+-- by columns: create and drop wait for the lock; the handle calls on other slots are always admitted; the writer's calls begin where none
+-- is under way, and step and run go on where one is; slot 0 is the writer's own: dropped after gone alone, and left alone under way
+abbrev pub admissions : Phase → List ℕ
+admissions p =
+    replicate 2 (locked (locks p))
+    ++ (replicate 5 0
+    ++ (replicate 5 (notNow (underway p || isGone p))
+    ++ (replicate 2 (notNow (not (underway p))) ++ (notNow (not (isGone p)) ∷ replicate 5 (notNow (underway p))))))
+
 unfoldable pub entry : Phase → ℕ → ℕ
-entry p c =
-    elim (ltb c 2) [
-      | true ↦ locked (locks p)
-      | false ↦
-          elim (ltb c 7) [
-            | true ↦ 0
-            | false ↦
-                elim (ltb c 12) [
-                  | true ↦ notNow (underway p || isGone p)
-                  | false ↦
-                      elim (ltb c 14) [
-                        | true ↦ notNow (not (underway p))
-                        | false ↦ elim (ltb c 15) [ true ↦ notNow (not (isGone p)) | false ↦ notNow (underway p) ]
-                      ]
-                ]
-          ]
-    ]
+entry p c = getD (admissions p) c (notNow (underway p))

@@ -1,17 +1,16 @@
--- The table's rule is one test over all of its entries. It goes by rows; each phase has the entries of its row.
+-- The table's rule is one test over all of its admissions. It goes by rows; each phase has the admissions of its row.
 use Prim.Native.Nat.{ℕ, _≤_, _<_}
 use mathlib.Core.Path.{_≡_, refl, sym, ap, _∙_}
 use mathlib.Core.List.{List, [], _∷_}
 use mathlib.Core.Bool.{true}
 use native.Mathlib.Omega.{arith}
 use borrow.Author.Needs.{needs}
-use borrow.Author.Tests.{le-ltb}
-use lib.Dec.{lit<, lit≤}
-use lib.ListN.{getD}
+use lib.Dec.{lit<}
+use lib.ListN.{getD, List·getD-eq-default}
 use Rattle.read.specs.declared.Phase.{Phase}
 use Rattle.read.specs.declared.Phase.the-variants.{Idle, Begin, Poll, Copy, Drain, Keep, Swap, Snap, Null, Lock, LastSnap, LastPoll, Finish, Gone}
 use Rattle.read.specs.Machine.{underway, row}
-use Rattle.read.specs.Admission.{notNow, entry}
+use Rattle.read.specs.Admission.{notNow, admissions, entry}
 use Rattle.read.proofs.Table.{every, rowRight, at-table}
 use Rattle.read.proofs.admission.entry.Statement.{statement}
 use Rattle.read.proofs.admission.entry.Tie as tie
@@ -41,7 +40,7 @@ phases = Idle ∷ Begin ∷ Poll 0 ∷ Copy ∷ Drain ∷ Keep 0 ∷ Swap ∷ Sn
 abbrev rule : ℕ → ℕ → ℕ
 rule i j = entry (getD phases i Idle) j
 
--- all entries at once
+-- all admissions at once
 right : every (rowRight 20 rule) 0 admits ≡ true
 unfolding admits entry
 right = refl
@@ -71,14 +70,10 @@ entry-at : (p : Phase) (j : ℕ) → j < 20 → getD (getD admits (row p) []) j 
 unfolding admits
 entry-at p j h = at-table 20 rule admits right (row p) j (in-table p) h ∙ in-rows p .1 j
 
--- from the last kind of call on the rule is the same
-entry-last : (p : Phase) (j : ℕ) → 15 ≤ j → entry p j ≡ notNow (underway p)
+-- behind the last column the rule is the last one's
+entry-past : (p : Phase) (j : ℕ) → 20 ≤ j → entry p 19 ≡ entry p j
 unfolding entry
-entry-last p j h =
-    rw (le-ltb j 2 (omega arith), le-ltb j 7 (omega arith), le-ltb j 12 (omega arith), le-ltb j 14 (omega arith), le-ltb j 15 h, entry)
-
-entry-past : (p : Phase) (i j : ℕ) → 15 ≤ i → 15 ≤ j → entry p i ≡ entry p j
-entry-past p i j h l = entry-last p i h ∙ sym (entry-last p j l)
+entry-past p j h = sym (List·getD-eq-default (admissions p) (notNow (underway p)) h)
 
 row-requires : tie.Need-row-requires
 row-requires c κs = search needs
@@ -107,7 +102,7 @@ index-2-result-2 c = search needs
 
 returns-2 : tie.Need-returns-2
 unfolding admits
-returns-2 c = ap (λ i. getD (getD admits i []) 19 0) (c .before .before .row .ensures) ∙ entry-at (c .before .before .before .args .p) 19 (lit< tt) ∙ entry-past (c .before .before .before .args .p) 19 (c .before .before .before .args .column) (lit≤ tt) (omega arith)
+returns-2 c = ap (λ i. getD (getD admits i []) 19 0) (c .before .before .row .ensures) ∙ entry-at (c .before .before .before .args .p) 19 (lit< tt) ∙ entry-past (c .before .before .before .args .p) (c .before .before .before .args .column) (c .before .if1 .left)
 
 pub entry-spec : {M : Type 1} → statement M
 entry-spec =
