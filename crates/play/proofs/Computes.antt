@@ -1,8 +1,9 @@
 -- What a computed witness opens.
 use Rattle.write.proofs.Computes.{rules as writeRules}
+use Rattle.write.specs.World.{played}
 use Rattle.play.specs.Schedule.{decoded}
-use Rattle.play.specs.Player.{transcript, flawOf, playRule}
+use Rattle.play.specs.Player.{entriesOf, flawOf, playRule}
 
 unfoldable pub rules : Type 0
-unfolding writeRules playRule flawOf transcript decoded
+unfolding writeRules played playRule flawOf entriesOf decoded
 rules = Unit {0}

@@ -1,10 +1,12 @@
 -- The laws of the player.
 pub mod Numbers
 pub mod Records
+pub mod Lengths
 pub mod Rule
 pub mod Refusals
-pub mod Due
-pub mod StepsDue
+pub mod Run
+pub mod Turned
+pub mod Going
 pub mod Plays
 pub mod Determined
 pub mod Promises

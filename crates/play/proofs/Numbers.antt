@@ -7,7 +7,7 @@ use native.Mathlib.Omega.{arith}
 use lib.ListN.{length, getD, set, take, drop}
 use lib.Seq.{sets, sets-eq}
 use Rattle.play.specs.Schedule.{numberAt, bytesOf}
-use Rattle.play.specs.Player.{entryOf}
+use Rattle.play.specs.Player.{entryBytes, entryOf}
 
 pub number-one : (s : List ℕ) (at : ℕ) → numberAt 1 s at ≡ getD s at 0
 number-one s at = omega arith
@@ -42,9 +42,9 @@ store-next n i v at l h =
 
 -- an entry stored byte by byte
 pub put-entry :
-    (a v at : ℕ) (l : List ℕ) → at + 9 ≤ length l →
-    sets l at (entryOf a v) ≡ take at l ++ (entryOf a v ++ drop (at + 9) l)
-put-entry a v at l h = sets-eq (entryOf a v) l at h ∙ append-assoc (take at l) (entryOf a v) (drop (at + 9) l)
+    (a v at : ℕ) (l : List ℕ) → at + entryBytes ≤ length l →
+    sets l at (entryOf a v) ≡ take at l ++ (entryOf a v ++ drop (at + entryBytes) l)
+put-entry a v at l h = sets-eq (entryOf a v) l at h ∙ append-assoc (take at l) (entryOf a v) (drop (at + entryBytes) l)
 
 -- none is left
 pub store-none : (n i v at : ℕ) (l : List ℕ) → n ≤ i → sets l at (bytesOf (n - i) v) ≡ l

@@ -1,333 +1,198 @@
--- The player's loop: what stands in the output before a turn, what is still to be written, and each kind of turn.
-use Prim.Native.Nat.{ℕ, zero, suc, _+_, _-_, _*_, _≤_, _<_}
+-- The player's loop: before a turn, what stands in the output, and that the records still to come give the rest of what is to be
+-- written, and the machine that is to be reached.
+use Prim.Native.Nat.{ℕ, zero, suc, _+_, _-_, _*_, _/_, _≤_, _<_}
 use mathlib.Core.Path.{_≡_, refl, sym, ap, subst, _∙_}
+use mathlib.Core.Bool.{false, _||_}
 use mathlib.Core.List.{List, [], _++_, append-assoc, append-nil}
 use native.Mathlib.Omega.{arith}
-use native.Mathlib.Numerals.{add-one}
-use mathlib.Core.Bool.{true, false}
-use borrow.Author.Tests.{eq-eqb}
-use lib.ListN.{length, getD, set, take, drop, replicate, length-append, length-drop, take-append-drop}
-use lib.Seq.{set-getD, length-take-le, take-at, drop-append-add, drop-drop}
+use lib.ListN.{length, getD, set, take, drop, length-append, length-drop, take-append-drop}
+use lib.Seq.{length-take-le, take-at, drop-append-add, drop-drop}
 use Rattle.table.specs.Answers.{number}
-use Rattle.table.specs.Copy.{words}
-use Rattle.table.specs.declared.Answer.{Answer}
-use Rattle.table.specs.declared.Answer.the-variants as answer
 use Rattle.read.specs.declared.Control.{Control}
 use Rattle.read.specs.declared.Slot.{Slot}
 use Rattle.read.specs.declared.State.{State}
 use Rattle.read.specs.declared.Reply.{Reply}
-use Rattle.read.specs.Machine.{slotCount, logWords, noSlot, fresh, place}
-use Rattle.read.specs.Calls.{Lent, lent, refusal, startRule}
+use Rattle.read.specs.declared.Verdict.the-variants.{Admitted}
+use Rattle.read.specs.Machine.{slotCount, noSlot, judged}
+use Rattle.read.specs.Calls.{Lent, lent}
 use Rattle.write.specs.declared.Moved.{Moved}
 use Rattle.write.specs.declared.Call.{Call}
-use Rattle.write.specs.Steps.{refused, stepAt}
-use Rattle.write.specs.Runs.{left}
-use Rattle.write.proofs.Left.{left-small}
+use Rattle.write.specs.Numbers.{isStep, isRun, slotOf}
+use Rattle.write.specs.Runs.{lift}
+use Rattle.write.specs.Machine.{callOn, callRule}
+use Rattle.write.specs.World.{World, worldOf, answerOf, valueOf, Played, answering, played}
+use Rattle.write.proofs.Judged.{judged-good}
 use Rattle.write.proofs.RunLaws.{stateOf}
-use Rattle.write.proofs.NeverBroken.{Sound, SoundOut, sound-fresh, call-made}
-use Rattle.play.specs.Schedule.{decoded, callsFrom}
-use Rattle.play.specs.Player.{entryOf, transcript, played}
-use Rattle.play.specs.declared.turns.Turned.{Turned}
-use Rattle.play.specs.Turns.{isStep, goesOn, stepValue, target, absent, turnOn}
-use Rattle.play.proofs.Due.{due, due-start, sound-due, due-absent, Continues, after, ending, turnAt, turn-over, turn-more}
-use Rattle.play.proofs.StepsDue.{step-slot, step-held, held-stops, movedTo, step, step-over, step-more}
-use Rattle.read.proofs.Cases.{stateOf}
+use Rattle.write.proofs.NeverBroken.{Sound, call-made, sound-call}
+use Rattle.play.specs.declared.turns.Far.{Far}
+use Rattle.play.specs.declared.Reached.{Reached}
+use Rattle.play.specs.Schedule.{recordBytes, decoded, callsFrom, callsIn}
+use Rattle.play.specs.Player.{entryBytes, entryOf, entriesOf, transcript, machine, reached}
+use Rattle.play.specs.Turns.{within, turnOn, over}
+use Rattle.play.proofs.Turned.{sought, turn-made}
+use Rattle.play.proofs.Going.{Said, said}
 
--- ---- what is still to be written
-
-abbrev entry : Lent Reply → List ℕ
-entry o = entryOf (number (o .made .answer)) (o .made .value)
-
-abbrev next : List Call → Lent Reply → List ℕ
-next ks o = entry o ++ transcript ks (o .made .state) (o .left) (o .right) (o .log)
-
--- of k records from i on, n slots of the first being passed or steps made
-abbrev pub remaining : List ℕ → ℕ → ℕ → ℕ → State → List ℕ → List ℕ → List ℕ → List ℕ
-remaining s i zero n st l r g = []
-remaining s i (suc k) n st l r g = next (callsFrom s (suc i) k) (due (decoded s i) n st l r g)
-
-pub remaining-start :
-    (s : List ℕ) (i k : ℕ) (st : State) (l r g : List ℕ) → Sound st l r g →
-    transcript (callsFrom s i k) st l r g ≡ remaining s i k 0 st l r g
-unfolding transcript
-remaining-start s i zero st l r g h = refl
-remaining-start s i (suc k) st l r g h =
-    ap (next (callsFrom s (suc i) k)) (call-made (decoded s i) st l r g h ∙ sym (due-start st l r g (decoded s i)))
+-- a call that takes one turn: what its move says, slot and snapshot being put back
+pub turn-said :
+    (k : Call) → (isStep k || isRun k) ≡ false → (c : Control) (ss : List Slot) (es l r g : List ℕ) {i j : ℕ} → i ≡ sought k ss (slotOf k) →
+    j ≡ within i → {s : Slot} → s ≡ getD ss j noSlot → {m : Moved} {l' r' g' : List ℕ} →
+    lent m l' r' g' ≡ turnOn k i c s (getD es j 0) l r g →
+    Said (callOn k (stateOf c ss es) l r g) (over m) (m .control) (set ss j (m .slot)) (set es j (m .snapshot)) l' r' g'
+turn-said k p c ss es l r g {i} {j} e f q x =
+    let st = stateOf c ss es in
+    said
+    (turn-made st l r g k p
+    ∙ ap (λ (i : ℕ). lift (within i) st (turnOn k i c (getD ss (within i) noSlot) (getD es (within i) 0) l r g)) (sym e)
+    ∙ ap (λ (j : ℕ). lift j st (turnOn k i c (getD ss j noSlot) (getD es j 0) l r g)) (sym f)
+    ∙ ap (λ (s : Slot). lift j st (turnOn k i c s (getD es j 0) l r g)) (sym q) ∙ ap (lift j st) (sym x))
+    refl refl
 
 -- ---- before a turn
 
--- record i is at hand, n slots of its call being passed or steps made; whole: what the output is to begin with
-pub record Plays (s : List ℕ) (count : ℕ) (out₀ whole out : List ℕ) (i n : ℕ) (c : Control) (ss : List Slot) (es l r g : List ℕ) : Type 0 where
-  pub sound : Sound (stateOf c ss es) l r g
-  pub upto : i ≤ count
-  pub few : n + left c ≤ 1000 + slotCount
-  pub sized : length out ≡ length out₀
-  pub behind : drop (9 * count) out ≡ drop (9 * count) out₀
-  pub same : take (9 * i) out ++ remaining s i (count - i) n (stateOf c ss es) l r g ≡ whole
+-- how many whole records stand from byte `from` on
+abbrev pub remain : List ℕ → ℕ → ℕ
+remain s from = (length s - from) / recordBytes
 
--- start on words of the right lengths
-pub start-fresh :
-    (l r g : List ℕ) → length l ≡ words → length r ≡ words → length g ≡ logWords →
-    startRule l r g
-    ≡ lent (record { answer = answer.Done; value = 0; state = fresh }) (replicate words 0) (replicate words 0) (replicate logWords 0)
-unfolding startRule
-start-fresh l r g x y z =
-    rw (eq-eqb (length l) words x, eq-eqb (length r) words y, eq-eqb (length g) logWords z, startRule) (rw (x, y, z))
+-- the records still to come
+abbrev rest : List ℕ → ℕ → World → Played
+rest s from w = played callRule (callsFrom s from (remain s from)) w
 
--- a fresh machine
-pub plays-start :
-    (s : List ℕ) (count : ℕ) (out : List ℕ) {o : Lent Reply} →
-    o ≡ lent (record { answer = answer.Done; value = 0; state = fresh }) (replicate words 0) (replicate words 0) (replicate logWords 0) →
-    Plays s count out (played (callsFrom s 0 count)) out 0 0 (o .made .state .control) (o .made .state .slots) (o .made .state .snapshots)
-    (o .left) (o .right) (o .log)
-plays-start s count out e =
-    let z : count - 0 ≡ count = omega arith in
-    subst
-    (λ (o : Lent Reply).
-    Plays s count out (played (callsFrom s 0 count)) out 0 0 (o .made .state .control) (o .made .state .slots) (o .made .state .snapshots)
-    (o .left) (o .right) (o .log))
-    (sym e)
-    (record {
-      sound = sound-fresh;
-      upto = omega arith;
-      few = omega (arith, left-small (fresh .control) (sound-fresh .good .whole));
-      sized = refl;
-      behind = refl;
-      same =
-          ap
-          (λ (k : ℕ). remaining s 0 k 0 fresh (replicate words 0) (replicate words 0) (replicate logWords 0)) z
-          ∙ sym (remaining-start s 0 count fresh (replicate words 0) (replicate words 0) (replicate logWords 0) sound-fresh);
-    })
-
-module _ {s : List ℕ} {count : ℕ} {out₀ whole out : List ℕ} {i n : ℕ} {c : Control} {ss : List Slot} {es l r g : List ℕ}
-    (p : Plays s count out₀ whole out i n c ss es l r g) (room : 9 * count ≤ length out₀)
+-- whole: what the output is to begin with; end: the machine that is to be reached
+pub record Plays (s out₀ whole : List ℕ) (end : World) (out : List ℕ) (from to : ℕ) (c : Control) (ss : List Slot) (es l r g : List ℕ) :
+    Type 0
   where
+    pub sound : Sound (stateOf c ss es) l r g
+    pub upto : from ≤ length s
+    pub used : from + recordBytes * remain s from ≡ recordBytes * (length s / recordBytes)
+    pub sized : length out ≡ length out₀
+    pub room : length whole ≤ length out₀
+    pub behind : drop (length whole) out ≡ drop (length whole) out₀
+    pub count : to + length (entriesOf (rest s from (machine (stateOf c ss es) l r g) .replies)) ≡ length whole
+    pub same : take to out ++ entriesOf (rest s from (machine (stateOf c ss es) l r g) .replies) ≡ whole
+    pub ends : rest s from (machine (stateOf c ss es) l r g) .world ≡ end
+
+-- a machine that is whole
+pub sound-judged : (st : State) (l r g : List ℕ) → judged (st .control) l r g ≡ Admitted → length (st .slots) ≡ slotCount →
+    length (st .snapshots) ≡ slotCount → Sound st l r g
+sound-judged st l r g h x y = record { good = judged-good (st .control) l r g h; slots = x; snapshots = y }
+
+pub plays-start :
+    (s out : List ℕ) (st : State) (l r g : List ℕ) → Sound st l r g → length (transcript (callsIn s) (machine st l r g)) ≤ length out →
+    (let w = machine st l r g in
+    Plays s out (transcript (callsIn s) w) (played callRule (callsIn s) w .world) out 0 0 (st .control) (st .slots) (st .snapshots) l r g)
+plays-start s out st l r g h b =
+    let w = machine st l r g in
+    let e : remain s 0 ≡ length s / recordBytes = omega arith in
+    let f : rest s 0 w ≡ played callRule (callsIn s) w = ap (λ (n : ℕ). played callRule (callsFrom s 0 n) w) e in
+    record {
+      sound = h;
+      upto = omega arith;
+      used = omega (arith, e);
+      sized = refl;
+      room = b;
+      behind = refl;
+      count = omega (arith, ap (λ (p : Played). length (entriesOf (p .replies))) f);
+      same = ap (λ (p : Played). entriesOf (p .replies)) f;
+      ends = ap (λ (p : Played). p .world) f;
+    }
+
+module _ {s out₀ whole : List ℕ} {end : World} {out : List ℕ} {from to : ℕ} {c : Control} {ss : List Slot} {es l r g : List ℕ}
+    (p : Plays s out₀ whole end out from to c ss es l r g)
+  where
+    abbrev here : World
+    here = machine (stateOf c ss es) l r g
+
     -- behind the last record
-    pub plays-end : count ≤ i → out ≡ whole ++ drop (9 * count) out₀
-    plays-end h =
-        let e : i ≡ count = omega (arith, p .upto) in
-        let z : count - i ≡ 0 = omega arith in
-        let x : take (9 * count) out ≡ whole =
-        ap (λ (k : ℕ). take (9 * k) out) (sym e) ∙ sym (append-nil (take (9 * i) out))
-        ∙ ap (λ (k : ℕ). take (9 * i) out ++ remaining s i k n (stateOf c ss es) l r g) (sym z) ∙ p .same in
-        sym (take-append-drop (9 * count) out) ∙ (λ j. x j ++ p .behind j)
+    module _ (b : length s - from < recordBytes) where
+      none : rest s from here ≡ record { replies = []; world = here }
+      unfolding played
+      none = ap (λ (n : ℕ). played callRule (callsFrom s from n) here) (let z : remain s from ≡ 0 = omega arith in z)
 
-    module _ (b : i < count) where
-      abbrev rest : List Call
-      rest = callsFrom s (suc i) (count - (i + 1))
+      written : to ≡ length whole
+      unfolding entriesOf
+      written = omega (arith, p .count, ap (λ (q : Played). length (entriesOf (q .replies))) none)
 
-      one-more : count - i ≡ suc (count - (i + 1))
+      pub plays-end : out ≡ whole ++ drop (length whole) out₀
+      unfolding entriesOf
+      plays-end =
+          let x : take (length whole) out ≡ whole =
+          ap (λ (n : ℕ). take n out) (sym written) ∙ sym (append-nil (take to out))
+          ∙ ap (λ (q : Played). take to out ++ entriesOf (q .replies)) (sym none) ∙ p .same in
+          sym (take-append-drop (length whole) out) ∙ (λ j. x j ++ p .behind j)
+
+      pub plays-reached :
+          lent {A = Reached} (record { state = stateOf c ss es; used = from; written = to }) l r g
+          ≡ lent
+          (record { state = end .state; used = recordBytes * (length s / recordBytes); written = length whole })
+          (end .left) (end .right) (end .log)
+      plays-reached =
+          let e : here ≡ end = ap (λ (q : Played). q .world) (sym none) ∙ p .ends in
+          let u : from ≡ recordBytes * (length s / recordBytes) =
+          (let z : remain s from ≡ 0 = omega arith in omega (arith, p .used, z)) in
+          λ j. lent {A = Reached} (record { state = e j .state; used = u j; written = written j }) (e j .left) (e j .right) (e j .log)
+
+    -- a record is at hand
+    module _ (b : recordBytes ≤ length s - from) where
+      abbrev call : Call
+      call = decoded s from
+
+      abbrev reply : Lent Reply
+      reply = callRule call (stateOf c ss es) l r g
+
+      abbrev more : List Call
+      more = callsFrom s (from + recordBytes) (remain s (from + recordBytes))
+
+      one-more : remain s from ≡ suc (remain s (from + recordBytes))
       one-more = omega arith
 
-      -- what is at hand, before what is not
-      at-hand : take (9 * i) out ++ next rest (due (decoded s i) n (stateOf c ss es) l r g) ≡ whole
-      at-hand =
-          ap (λ (k : ℕ). take (9 * i) out ++ remaining s i k n (stateOf c ss es) l r g) (sym one-more) ∙ p .same
+      opens : rest s from here ≡ answering (answerOf reply) (valueOf reply) (played callRule more (worldOf reply))
+      unfolding played
+      opens = ap (λ (n : ℕ). played callRule (callsFrom s from n) here) one-more
 
-      -- the call goes on
-      pub plays-more :
-          (v : ℕ) (d : Control) (ts : List Slot) (fs l' r' g' : List ℕ) →
-          due (decoded s i) n (stateOf c ss es) l r g ≡ due (decoded s i) v (stateOf d ts fs) l' r' g' →
-          Sound (stateOf d ts fs) l' r' g' → v + left d ≤ 1000 + slotCount → Plays s count out₀ whole out i v d ts fs l' r' g'
-      plays-more v d ts fs l' r' g' e h f = record {
-        sound = h;
-        upto = p .upto;
-        few = f;
-        sized = p .sized;
-        behind = p .behind;
-        same =
-            ap (λ (k : ℕ). take (9 * i) out ++ remaining s i k v (stateOf d ts fs) l' r' g') one-more
-            ∙ ap (λ (o : Lent Reply). take (9 * i) out ++ next rest o) (sym e) ∙ at-hand;
-      }
+      pub plays-room : to + entryBytes ≤ length out
+      unfolding entriesOf
+      plays-room =
+          omega (arith, p .count, p .room, p .sized, ap (λ (q : Played). length (entriesOf (q .replies))) opens)
 
-      -- the entry is written
-      module _ (a : Answer) (v : ℕ) (d : Control) (ts : List Slot) (fs l' r' g' : List ℕ)
-          (e : due (decoded s i) n (stateOf c ss es) l r g ≡ lent (record { answer = a; value = v; state = stateOf d ts fs }) l' r' g')
-        where
-          abbrev head : List ℕ
-          head = take (9 * i) out ++ entryOf (number a) v
-
-          length-head : length head ≡ 9 * (i + 1)
-          length-head =
-              let x : length (take (9 * i) out) ≡ 9 * i = length-take-le (9 * i) out (omega (arith, p .sized)) in
-              length-append (take (9 * i) out) (entryOf (number a) v) ∙ omega (arith, x)
-
-          pub plays-entry :
-              (out' : List ℕ) → out' ≡ take (9 * i) out ++ (entryOf (number a) v ++ drop (9 * i + 9) out) →
-              Plays s count out₀ whole out' (i + 1) 0 d ts fs l' r' g'
-          plays-entry out' q =
-              let h : Sound (stateOf d ts fs) l' r' g' = subst SoundOut e (sound-due (stateOf c ss es) l r g (p .sound) (decoded s i) n) in
-              let x : out' ≡ head ++ drop (9 * i + 9) out = q ∙ sym (append-assoc (take (9 * i) out) (entryOf (number a) v) (drop (9 * i + 9) out)) in
-              let y : 9 * count ≡ length head + (9 * count - 9 * (i + 1)) = omega (arith, length-head) in
-              let z : 9 * i + 9 + (9 * count - 9 * (i + 1)) ≡ 9 * count = omega arith in
-              record {
-                sound = h;
-                upto = omega arith;
-                few = omega (arith, left-small d (h .good .whole));
-                sized =
-                    ap length x ∙ length-append head (drop (9 * i + 9) out)
-                    ∙ omega (arith, length-head, length-drop (9 * i + 9) out, p .sized);
-                behind =
-                    ap (drop (9 * count)) x ∙ ap (λ (k : ℕ). drop k (head ++ drop (9 * i + 9) out)) y
-                    ∙ drop-append-add head (drop (9 * i + 9) out) (9 * count - 9 * (i + 1))
-                    ∙ drop-drop (9 * count - 9 * (i + 1)) (9 * i + 9) out ∙ ap (λ (k : ℕ). drop k out) z ∙ p .behind;
-                same =
-                    ap (λ (w : List ℕ). take (9 * (i + 1)) w ++ remaining s (i + 1) (count - (i + 1)) 0 (stateOf d ts fs) l' r' g') x
-                    ∙ (λ j.
-                    take-at head (drop (9 * i + 9) out) (9 * (i + 1)) length-head j
-                    ++ sym (remaining-start s (i + 1) (count - (i + 1)) (stateOf d ts fs) l' r' g' h) j)
-                    ∙ append-assoc (take (9 * i) out) (entryOf (number a) v)
-                    (transcript (callsFrom s (i + 1) (count - (i + 1))) (stateOf d ts fs) l' r' g')
-                    ∙ ap
-                    (λ (k : ℕ).
-                    take (9 * i) out
-                    ++ (entryOf (number a) v ++ transcript (callsFrom s k (count - (i + 1))) (stateOf d ts fs) l' r' g'))
-                    (add-one i)
-                    ∙ ap (λ (o : Lent Reply). take (9 * i) out ++ next rest o) (sym e) ∙ at-hand;
-              }
-
--- ---- a turn of the loop, of call k
-
-module _ {s : List ℕ} {count : ℕ} {out₀ whole out : List ℕ} {i n : ℕ} {c : Control} {ss : List Slot} {es l r g : List ℕ}
-    (p : Plays s count out₀ whole out i n c ss es l r g) (room : 9 * count ≤ length out₀) (b : i < count) {k : Call} (e : k ≡ decoded s i)
-  where
-    abbrev st : State
-    st = stateOf c ss es
-
-    abbrev Written : Answer → ℕ → List ℕ → Type 0
-    Written a v out' = out' ≡ take (9 * i) out ++ (entryOf (number a) v ++ drop (9 * i + 9) out)
-
-    of-call : due (decoded s i) n st l r g ≡ due k n st l r g
-    of-call = ap (λ (k : Call). due k n st l r g) (sym e)
-
-    goes :
-        {v : ℕ} {d : Control} {ts : List Slot} {fs l' r' g' : List ℕ} → Continues k n st l r g v (stateOf d ts fs) l' r' g' →
-        Plays s count out₀ whole out i v d ts fs l' r' g'
-    goes {v} {d} {ts} {fs} {l'} {r'} {g'} x =
-        plays-more p room b v d ts fs l' r' g'
-        (of-call ∙ x .same ∙ ap (λ (k : Call). due k v (stateOf d ts fs) l' r' g') e) (x .sound) (x .few (p .few))
-
-    -- ---- step and run: one step
-
-    module _ (a : isStep k ≡ true) {j : ℕ} (f : j ≡ place (c .phase)) {m : Moved} {l' r' g' : List ℕ} {own : Slot}
-        (o : own ≡ getD ss j noSlot) (q : lent m l' r' g' ≡ stepAt (c .phase) c own (getD es j 0) l r g)
-      where
-        stepped : lent m l' r' g' ≡ step st l r g n
-        stepped =
-            q ∙ ap (λ (s : Slot). stepAt (c .phase) c s (getD es j 0) l r g) o
-            ∙ ap (λ (j : ℕ). stepAt (c .phase) c (getD ss j noSlot) (getD es j 0) l r g) f
-
-        -- the slot that is put back
-        abbrev back : Slot
-        back = record { used = m .slot .used; epoch = own .epoch; guards = own .guards; due = own .due }
-
-        put-back : back ≡ m .slot
-        put-back =
-            sym
-            (subst (λ (m : Lent Moved). m .made .slot ≡ record { used = m .made .slot .used; epoch = own .epoch; guards = own .guards; due = own .due })
-            (sym q) (step-slot c own (getD es j 0) l r g (c .phase)))
-
-        moved : stateOf (m .control) (set ss j back) (set es j (m .snapshot)) ≡ movedTo (place (c .phase)) st (step st l r g n .made)
-        moved =
-            ap (λ (s : Slot). stateOf (m .control) (set ss j s) (set es j (m .snapshot))) put-back
-            ∙ (λ x. movedTo (f x) st (stepped x .made))
-
-        over : goesOn k m ≡ false →
-            due (decoded s i) n st l r g
-            ≡ lent (record { answer = m .answer; value = stepValue k n m; state = stateOf (m .control) (set ss j back) (set es j (m .snapshot)) }) l' r' g'
-        over z =
-            of-call ∙ step-over st l r g n (p .sound .good .whole) k a (ap (λ (m : Lent Moved). goesOn k (m .made)) (sym stepped) ∙ z)
-            ∙ (λ x.
-            lent
-            (record {
-              answer = sym stepped x .made .answer;
-              value = stepValue k n (sym stepped x .made);
-              state = sym moved x;
-            })
-            (sym stepped x .left) (sym stepped x .right) (sym stepped x .log))
-
-        -- the call is over
-        pub step-ends :
-            goesOn k m ≡ false → (out' : List ℕ) → Written (m .answer) (stepValue k n m) out' →
-            Plays s count out₀ whole out' (i + 1) 0 (m .control) (set ss j back) (set es j (m .snapshot)) l' r' g'
-        step-ends z =
-            plays-entry p room b (m .answer) (stepValue k n m) (m .control) (set ss j back) (set es j (m .snapshot)) l' r' g' (over z)
-
-        continues :
-            goesOn k m ≡ true →
-            Continues k n st l r g (n + 1) (stateOf (m .control) (set ss j back) (set es j (m .snapshot))) l' r' g'
-        continues z =
-            subst (λ (to : State). Continues k n st l r g (n + 1) to l' r' g') (sym moved)
-            (subst
-            (λ (w : Lent Moved). Continues k n st l r g (n + 1) (movedTo (place (c .phase)) st (step st l r g n .made)) (w .left) (w .right) (w .log))
-            (sym stepped)
-            (step-more st l r g n (p .sound) k (ap (λ (m : Lent Moved). goesOn k (m .made)) (sym stepped) ∙ z)))
-
-        -- it goes on
-        pub step-goes :
-            goesOn k m ≡ true → Plays s count out₀ whole out i (n + 1) (m .control) (set ss j back) (set es j (m .snapshot)) l' r' g'
-        step-goes z = goes (continues z)
-
-        pub step-fewer : goesOn k m ≡ true → left (m .control) + (slotCount - (n + 1)) < left c + (slotCount - n)
-        step-fewer z = continues z .fewer
-
-        -- it is held: nothing is put back
-        pub held-ends :
-            number (m .answer) ≡ 13 → (out' : List ℕ) → Written (m .answer) (stepValue k n m) out' →
-            Plays s count out₀ whole out' (i + 1) 0 c ss es l' r' g'
-        held-ends z =
-            let still : lent m l' r' g' ≡ lent (refused answer.Held c own (getD es j 0)) l r g =
-            q ∙ step-held c own (getD es j 0) l r g (c .phase) (ap (λ (w : Lent Moved). number (w .made .answer)) (sym q) ∙ z) in
-            let x : m .control ≡ c = ap (λ (w : Lent Moved). w .made .control) still in
-            let y : set ss j back ≡ ss =
-            ap (λ (s : Slot). set ss j s) (put-back ∙ ap (λ (w : Lent Moved). w .made .slot) still ∙ o) ∙ set-getD ss j noSlot in
-            let w : set es j (m .snapshot) ≡ es = ap (λ (w : Lent Moved). set es j (w .made .snapshot)) still ∙ set-getD es j 0 in
-            plays-entry p room b (m .answer) (stepValue k n m) c ss es l' r' g'
-            (over (held-stops k m z)
-            ∙ (λ j. lent (record { answer = m .answer; value = stepValue k n m; state = stateOf (x j) (y j) (w j) }) l' r' g'))
-
-    -- ---- the other calls, at slot j
-
-    module _ {j : ℕ} (f : j ≡ target k n) where
-      -- there is no such slot
-      pub absent-ends :
-          slotCount ≤ j → {a : Answer} → a ≡ absent k c → (out' : List ℕ) → Written a 0 out' →
-          Plays s count out₀ whole out' (i + 1) 0 c ss es l r g
-      absent-ends h {a} x =
-          plays-entry p room b a 0 c ss es l r g
-          (of-call ∙ due-absent st l r g n k (omega (arith, f)) ∙ ap (λ (a : Answer). lent (refusal a st) l r g) (sym x))
-
-      module _ {t : Turned} {l' r' g' : List ℕ} {own : Slot} (o : own ≡ getD ss j noSlot)
-          (q : lent t l' r' g' ≡ turnOn k n j c own (getD es j 0) l r g) (h : j < slotCount)
-        where
-          turned : lent t l' r' g' ≡ turnAt st l r g n k
-          turned =
-              q ∙ ap (λ (s : Slot). turnOn k n j c s (getD es j 0) l r g) o
-              ∙ ap (λ (j : ℕ). turnOn k n j c (getD ss j noSlot) (getD es j 0) l r g) f
-
-          more-there : t .more ≡ turnAt st l r g n k .made .more
-          more-there = ap (λ (t : Lent Turned). t .made .more) turned
-
-          -- the call is over
-          pub turn-ends :
-              isStep k ≡ false → t .more ≡ false → (out' : List ℕ) → Written (t .answer) (t .value) out' →
-              Plays s count out₀ whole out' (i + 1) 0 (t .control) (set ss j (t .slot)) (set es j (t .snapshot)) l' r' g'
-          turn-ends a m =
-              plays-entry p room b (t .answer) (t .value) (t .control) (set ss j (t .slot)) (set es j (t .snapshot)) l' r' g'
-              (of-call ∙ turn-over st l r g n k a (omega (arith, f)) (sym more-there ∙ m) ∙ (λ x. ending (sym f x) st (sym turned x)))
-
-          abbrev To : ℕ → Lent Turned → Type 0
-          To j t = Continues k n st l r g (t .made .value) (after j st (t .made)) (t .left) (t .right) (t .log)
-
-          continued : t .more ≡ true → To j (lent t l' r' g')
-          continued m =
-              subst (λ (t : Lent Turned). To j t) (sym turned)
-              (subst (λ (j : ℕ). To j (turnAt st l r g n k)) (sym f) (turn-more st l r g n (p .sound) k (omega (arith, f)) (sym more-there ∙ m)))
-
-          -- it goes on
-          pub turn-goes :
-              t .more ≡ true → Plays s count out₀ whole out i (t .value) (t .control) (set ss j (t .slot)) (set es j (t .snapshot)) l' r' g'
-          turn-goes m = goes (continued m)
-
-          pub turn-fewer : t .more ≡ true → left (t .control) + (slotCount - t .value) < left c + (slotCount - n)
-          turn-fewer m = continued m .fewer
+      pub plays-next :
+          {f : Far} {d : Control} {ts : List Slot} {fs l' r' g' : List ℕ} → Said (callOn call (stateOf c ss es) l r g) f d ts fs l' r' g' →
+          (out' : List ℕ) → out' ≡ take to out ++ (entryOf (number (f .answer)) (f .value) ++ drop (to + entryBytes) out) →
+          Plays s out₀ whole end out' (from + recordBytes) (to + entryBytes) d ts fs l' r' g'
+      unfolding entriesOf
+      plays-next {f} {d} {ts} {fs} {l'} {r'} {g'} q out' w =
+          let e : Said reply f d ts fs l' r' g' =
+          subst (λ (o : Lent Reply). Said o f d ts fs l' r' g') (sym (call-made call (stateOf c ss es) l r g (p .sound))) q in
+          let next : World = machine (stateOf d ts fs) l' r' g' in
+          let entry : List ℕ = entryOf (number (f .answer)) (f .value) in
+          let opened : rest s from here ≡ answering (number (f .answer)) (f .value) (rest s (from + recordBytes) next) =
+          opens ∙ (λ j. answering (e .answer j) (e .value j) (played callRule more (e .world j))) in
+          let fit : to + entryBytes ≤ length out = plays-room in
+          let head : List ℕ = take to out ++ entry in
+          let taken : length (take to out) ≡ to = length-take-le to out (omega arith) in
+          let tall : length head ≡ to + entryBytes = length-append (take to out) entry ∙ omega (arith, taken) in
+          let x : out' ≡ head ++ drop (to + entryBytes) out = w ∙ sym (append-assoc (take to out) entry (drop (to + entryBytes) out)) in
+          let many : to + (entryBytes + length (entriesOf (rest s (from + recordBytes) next .replies))) ≡ length whole =
+          omega (arith, p .count, ap (λ (q : Played). length (entriesOf (q .replies))) opened) in
+          let y : length whole ≡ length head + (length whole - (to + entryBytes)) = omega (arith, tall, many) in
+          let z : to + entryBytes + (length whole - (to + entryBytes)) ≡ length whole = omega (arith, many) in
+          record {
+            sound = subst (λ (w : World). Sound (w .state) (w .left) (w .right) (w .log)) (e .world) (sound-call call (stateOf c ss es) l r g (p .sound));
+            upto = omega arith;
+            used = omega (arith, p .used, one-more);
+            sized =
+                ap length x ∙ length-append head (drop (to + entryBytes) out)
+                ∙ omega (arith, tall, fit, length-drop (to + entryBytes) out, p .sized);
+            room = p .room;
+            behind =
+                ap (drop (length whole)) x ∙ ap (λ (n : ℕ). drop n (head ++ drop (to + entryBytes) out)) y
+                ∙ drop-append-add head (drop (to + entryBytes) out) (length whole - (to + entryBytes))
+                ∙ drop-drop (length whole - (to + entryBytes)) (to + entryBytes) out ∙ ap (λ (n : ℕ). drop n out) z ∙ p .behind;
+            count = omega (arith, many);
+            same =
+                ap (λ (v : List ℕ). take (to + entryBytes) v ++ entriesOf (rest s (from + recordBytes) next .replies)) x
+                ∙ ap (λ (v : List ℕ). v ++ entriesOf (rest s (from + recordBytes) next .replies))
+                (take-at head (drop (to + entryBytes) out) (to + entryBytes) tall)
+                ∙ append-assoc (take to out) entry (entriesOf (rest s (from + recordBytes) next .replies))
+                ∙ ap (λ (q : Played). take to out ++ entriesOf (q .replies)) (sym opened) ∙ p .same;
+            ends = ap (λ (q : Played). q .world) (sym opened) ∙ p .ends;
+          }

@@ -8,34 +8,17 @@ use borrow.Author.Tests.{eq-eqb, leb-true, eqb-true, eqb-false, not-false}
 use lib.Dec.{eqb, leb}
 use lib.ListN.{length, getD, take, drop, length-append, length-drop}
 use lib.Seq.{getD-take, drop-at}
-use Rattle.table.specs.Answers.{number}
 use Rattle.table.proofs.Seek.{seek-before, seek-found}
 use Rattle.table.proofs.Split.{split, under}
-use Rattle.read.specs.declared.State.{State}
 use Rattle.read.proofs.Tests.{and-left, and-right}
-use Rattle.write.specs.declared.Call.{Call}
-use Rattle.write.specs.Machine.{callRule}
+use Rattle.write.specs.World.{freshWorld}
 use Rattle.play.specs.declared.Flaw.{Flaw}
-use Rattle.play.specs.Schedule.{count, startOf, marked, versionOf, unknownAt, firstUnknown, callsFrom}
-use Rattle.play.specs.Player.{entryOf, transcript, played, flaw, flawOf, output, playRule}
+use Rattle.play.specs.Schedule.{count, startOf, marked, versionOf, unknownAt, firstUnknown, callsOf}
+use Rattle.play.specs.Player.{transcript, flaw, flawOf, output, playRule}
 use Rattle.play.specs.Refusals.{Applies, short, unmarked, version, torn, unknown, crowded, Outcome, Refusals}
+use Rattle.play.proofs.Lengths.{file-length}
 use Rattle.play.proofs.Records.{marked-long, marked-third, unknown-not, flaw-unmarked, flaw-version, flaw-torn, flaw-unknown, flaw-none}
 use Rattle.play.proofs.Rule.{play-flawed, play-short, play-made}
-
--- ---- the transcript has 9 bytes a record
-
-transcript-length : (ks : List Call) (st : State) (l r g : List ℕ) → length (transcript ks st l r g) ≡ 9 * length ks
-unfolding transcript
-transcript-length [] st l r g = refl
-transcript-length (k ∷ ks) st l r g =
-    let o = callRule k st l r g in
-    let w = transcript ks (o .made .state) (o .left) (o .right) (o .log) in
-    let long : length w ≡ 9 * length ks = transcript-length ks (o .made .state) (o .left) (o .right) (o .log) in
-    omega (arith, length-append (entryOf (number (o .made .answer)) (o .made .value)) w, long)
-
-calls-length : (s : List ℕ) (i n : ℕ) → length (callsFrom s i n) ≡ n
-calls-length s i zero = refl
-calls-length s i (suc n) = ap suc (calls-length s (suc i) n)
 
 -- ---- the tests, on the file's bytes
 
@@ -169,8 +152,8 @@ module _ (s out : List ℕ) where
             done : Outcome s out (playRule s out)
             done =
                 let n = 9 * count s in
-                let w = played (callsFrom s 0 (count s)) in
-                let long : length w ≡ n = transcript-length _ _ _ _ _ ∙ ap (λ (k : ℕ). 9 * k) (calls-length s 0 (count s)) in
+                let w = transcript (callsOf s) freshWorld in
+                let long : length w ≡ n = file-length s freshWorld in
                 subst (Outcome s out) (play-made s out flawless {w = w ++ drop n out} refl h refl) (
                   λ z. record {
                     flawless = λ a. none;

@@ -6,8 +6,9 @@ use mathlib.Core.List.{List, _++_}
 use borrow.Author.Tests.{le-leb, lt-leb, eq-eqb, ne-eqb, eqb-false}
 use lib.Dec.{eqb, leb}
 use lib.ListN.{length, drop}
-use Rattle.play.specs.Schedule.{count, callsFrom}
-use Rattle.play.specs.Player.{entryBytes, played, flawOf, refusalOf, Output, output, playRule}
+use Rattle.write.specs.World.{freshWorld}
+use Rattle.play.specs.Schedule.{count, callsOf}
+use Rattle.play.specs.Player.{entryBytes, transcript, flawOf, refusalOf, Output, output, playRule}
 
 module _ (s out : List ℕ) where
   abbrev answered : Bool → Bool → ℕ
@@ -16,7 +17,7 @@ module _ (s out : List ℕ) where
   abbrev transcribed : Output
   transcribed =
       output (record { answer = 0; written = entryBytes * count s })
-      (played (callsFrom s 0 (count s)) ++ drop (entryBytes * count s) out)
+      (transcript (callsOf s) freshWorld ++ drop (entryBytes * count s) out)
 
   abbrev rule : ℕ → Bool → Output
   rule a b = elim b [ true ↦ transcribed | false ↦ output (record { answer = a; written = 0 }) out ]
@@ -40,7 +41,7 @@ module _ (s out : List ℕ) where
 
     pub play-made :
         {n : ℕ} {w : List ℕ} → n ≡ entryBytes * count s → entryBytes * count s ≤ length out →
-        w ≡ played (callsFrom s 0 (count s)) ++ drop (entryBytes * count s) out →
+        w ≡ transcript (callsOf s) freshWorld ++ drop (entryBytes * count s) out →
         output (record { answer = 0; written = n }) w ≡ playRule s out
     unfolding playRule
     play-made {n} {w} x h y =

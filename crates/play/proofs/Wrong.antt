@@ -10,19 +10,15 @@ use lib.Dec.{eqb, ltb, leb}
 use lib.ListN.{length, getD, take, drop, set, replicate}
 use Rattle.table.proofs.Computes.{apart}
 use Rattle.table.proofs.Contracts.{Bytes, slice}
-use Rattle.table.specs.Answers.{number}
-use Rattle.table.specs.Copy.{words}
 use Rattle.table.specs.declared.Answer.the-variants as answer
-use Rattle.read.specs.declared.State.{State}
-use Rattle.read.specs.declared.Reply.{Reply}
-use Rattle.read.specs.Machine.{logWords, fresh}
-use Rattle.read.specs.Calls.{Lent, lent}
+use Rattle.read.specs.Calls.{lent}
 use Rattle.write.specs.declared.Call.{Call}
 use Rattle.write.specs.declared.Call.the-variants.{Create, On, Append, Open, Step, Run}
 use Rattle.write.specs.Machine.{callRule}
+use Rattle.write.specs.World.{Machine, freshWorld, played}
 use Rattle.play.specs.declared.Flaw.{Flaw}
-use Rattle.play.specs.Schedule.{numberAt, bytesOf, recordBytes, count, startOf, marked, versionOf, torn, firstUnknown, callOf, decoded, callsFrom}
-use Rattle.play.specs.Player.{entryBytes, entryOf, transcript, played, flaw, flawOf, refusalOf, Output, output, playRule}
+use Rattle.play.specs.Schedule.{numberAt, bytesOf, headBytes, recordBytes, count, marked, versionOf, torn, firstUnknown, fieldsAt, callOf, decoded, callsFrom}
+use Rattle.play.specs.Player.{entryBytes, entryOf, entriesOf, transcript, flaw, flawOf, refusalOf, Output, output, playRule}
 use Rattle.play.specs.Refusals.{Player, Applies, Refusals}
 use Rattle.play.proofs.Computes.{rules}
 use Rattle.play.proofs.Ends.{head, recordOf, p1}
@@ -65,19 +61,15 @@ itself n = n
 
 -- ---- a player by its parts
 
-abbrev Machine : Type 0
-Machine = Call → State → List ℕ → List ℕ → List ℕ → Lent Reply
-
 module _ (flawed : List ℕ → Flaw) (decode : List ℕ → ℕ → Call) (machine : Machine) (bytes : ℕ) (written : ℕ → ℕ → List ℕ) where
   abbrev callsBy : List ℕ → ℕ → ℕ → List Call
-  callsBy s i zero = []
-  callsBy s i (suc n) = decode s i ∷ callsBy s (suc i) n
+  callsBy s at zero = []
+  callsBy s at (suc n) = decode s at ∷ callsBy s (at + recordBytes) n
 
-  abbrev transcriptBy : List Call → State → List ℕ → List ℕ → List ℕ → List ℕ
-  transcriptBy [] st l r g = []
-  transcriptBy (k ∷ ks) st l r g =
-      let o = machine k st l r g in
-      written (number (o .made .answer)) (o .made .value) ++ transcriptBy ks (o .made .state) (o .left) (o .right) (o .log)
+  abbrev entriesBy : List ℕ → List ℕ
+  entriesBy [] = []
+  entriesBy (a ∷ []) = []
+  entriesBy (a ∷ v ∷ rest) = written a v ++ entriesBy rest
 
   abbrev refusalBy : List ℕ → ℕ → ℕ
   refusalBy s m =
@@ -89,25 +81,21 @@ module _ (flawed : List ℕ → Flaw) (decode : List ℕ → ℕ → Call) (mach
       elim (eqb (refusalBy s (length out)) 0) [
         | true ↦
             output (record { answer = 0; written = bytes * count s })
-            (transcriptBy (callsBy s 0 (count s)) fresh (replicate words 0) (replicate words 0) (replicate logWords 0)
+            (entriesBy (played machine (callsBy (drop headBytes s) 0 (length (drop headBytes s) / recordBytes)) freshWorld .replies)
             ++ drop (bytes * count s) out)
         | false ↦ output (record { answer = refusalBy s (length out); written = 0 }) out
       ]
 
 -- the right parts keep the promise
-right-calls : (s : List ℕ) (i n : ℕ) → callsBy flawOf decoded callRule entryBytes entryOf s i n ≡ callsFrom s i n
-right-calls s i zero = refl
-right-calls s i (suc n) = ap (λ (ks : List Call). decoded s i ∷ ks) (right-calls s (suc i) n)
+right-calls : (s : List ℕ) (at n : ℕ) → callsBy flawOf decoded callRule entryBytes entryOf s at n ≡ callsFrom s at n
+right-calls s at zero = refl
+right-calls s at (suc n) = ap (λ (ks : List Call). decoded s at ∷ ks) (right-calls s (at + recordBytes) n)
 
-right-transcript :
-    (ks : List Call) (st : State) (l r g : List ℕ) →
-    transcriptBy flawOf decoded callRule entryBytes entryOf ks st l r g ≡ transcript ks st l r g
-unfolding transcript
-right-transcript [] st l r g = refl
-right-transcript (k ∷ ks) st l r g =
-    let o = callRule k st l r g in
-    ap (λ (w : List ℕ). entryOf (number (o .made .answer)) (o .made .value) ++ w)
-    (right-transcript ks (o .made .state) (o .left) (o .right) (o .log))
+right-entries : (w : List ℕ) → entriesBy flawOf decoded callRule entryBytes entryOf w ≡ entriesOf w
+unfolding entriesOf
+right-entries [] = refl
+right-entries (a ∷ []) = refl
+right-entries (a ∷ v ∷ rest) = ap (λ (w : List ℕ). entryOf a v ++ w) (right-entries rest)
 
 right-plays : (s out : List ℕ) → playBy flawOf decoded callRule entryBytes entryOf s out ≡ playRule s out
 unfolding playRule
@@ -118,9 +106,8 @@ right-plays s out =
       | true ↦ output (record { answer = 0; written = entryBytes * count s }) (w ++ drop (entryBytes * count s) out)
       | false ↦ output (record { answer = refusalOf s (length out); written = 0 }) out
     ])
-    (right-transcript (callsBy flawOf decoded callRule entryBytes entryOf s 0 (count s)) fresh (replicate words 0) (replicate words 0)
-    (replicate logWords 0)
-    ∙ ap played (right-calls s 0 (count s)))
+    (right-entries _
+    ∙ ap (λ (ks : List Call). transcript ks freshWorld) (right-calls (drop headBytes s) 0 (length (drop headBytes s) / recordBytes)))
 
 right-keeps : PlayPromise (playBy flawOf decoded callRule entryBytes entryOf)
 right-keeps s out typed = right-plays (s .list) (out .list)
@@ -128,10 +115,17 @@ right-keeps s out typed = right-plays (s .list) (out .list)
 -- ---- one byte of a key is read at another place
 
 abbrev keyElsewhere : List ℕ → ℕ → Call
-keyElsewhere s i =
-    let a = startOf i in
-    callOf (getD s a 0) (getD s (a + 1) 0) (getD s (a + 2) 0) (getD s (a + 3) 0)
-    (numberAt 7 s (a + 4) + 256 ^ 7 * getD s (a + 12) 0) (numberAt 8 s (a + 12))
+keyElsewhere s at =
+    let f = fieldsAt s at in
+    callOf
+    (record {
+      call = f .call;
+      slot = f .slot;
+      guard = f .guard;
+      kind = f .kind;
+      key = numberAt 7 s (at + 4) + 256 ^ 7 * getD s (at + 12) 0;
+      amount = f .amount;
+    })
 
 keyElsewhere-wrong : PlayPromise (playBy flawOf keyElsewhere callRule entryBytes entryOf) → ⊥
 unfolding rules

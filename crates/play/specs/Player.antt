@@ -1,18 +1,18 @@
 -- The player: the transcript of a schedule's calls from a fresh machine.
-use Prim.Native.Nat.{ℕ, _+_, _*_}
+use Prim.Native.Nat.{ℕ, _*_, _/_}
 use mathlib.Core.Bool.{true, false}
 use mathlib.Core.List.{List, [], _∷_, _++_}
-use lib.ListN.{length, drop, replicate}
+use lib.ListN.{length, drop}
 use lib.Dec.{eqb, ltb, leb}
-use Rattle.table.specs.Answers.{number}
-use Rattle.table.specs.Copy.{words}
 use Rattle.read.specs.declared.State.{State}
-use Rattle.read.specs.Machine.{logWords, fresh}
+use Rattle.read.specs.Calls.{Lent, lent}
 use Rattle.write.specs.declared.Call.{Call}
 use Rattle.write.specs.Machine.{callRule}
+use Rattle.write.specs.World.{World, freshWorld, played}
+use Rattle.play.specs.declared.Reached.{Reached}
 use Rattle.play.specs.declared.Played.{Played}
 use Rattle.play.specs.declared.Flaw.{Flaw}
-use Rattle.play.specs.Schedule.{bytesOf, count, marked, versionOf, torn, firstUnknown, callsFrom}
+use Rattle.play.specs.Schedule.{bytesOf, recordBytes, count, marked, versionOf, torn, firstUnknown, callsIn, callsOf}
 
 -- ---- the transcript
 
@@ -24,16 +24,28 @@ entryBytes = 9
 abbrev pub entryOf : ℕ → ℕ → List ℕ
 entryOf a v = a ∷ bytesOf 8 v
 
--- the calls one after the other, each judged on the whole machine
-unfoldable pub transcript : List Call → State → List ℕ → List ℕ → List ℕ → List ℕ
-transcript [] st l r g = []
-transcript (k ∷ ks) st l r g =
-    let o = callRule k st l r g in
-    entryOf (number (o .made .answer)) (o .made .value) ++ transcript ks (o .made .state) (o .left) (o .right) (o .log)
+-- the entries of answers and values, which come in turn
+unfoldable pub entriesOf : List ℕ → List ℕ
+entriesOf [] = []
+entriesOf (a ∷ []) = []
+entriesOf (a ∷ v ∷ rest) = entryOf a v ++ entriesOf rest
 
--- from a fresh machine
-abbrev pub played : List Call → List ℕ
-played ks = transcript ks fresh (replicate words 0) (replicate words 0) (replicate logWords 0)
+-- what the calls say, one after the other, each judged on the whole machine
+abbrev pub transcript : List Call → World → List ℕ
+transcript ks w = entriesOf (played callRule ks w .replies)
+
+-- ---- a part of a schedule, played on a machine
+
+abbrev pub machine : State → List ℕ → List ℕ → List ℕ → World
+machine st l r g = record { state = st; left = l; right = r; log = g }
+
+-- the state and the lent words behind the part's whole records, and how many bytes were read and written
+abbrev pub reached : List ℕ → World → Lent Reached
+reached s w =
+    let p = played callRule (callsIn s) w in
+    lent
+    (record { state = p .world .state; used = recordBytes * (length s / recordBytes); written = length (entriesOf (p .replies)) })
+    (p .world .left) (p .world .right) (p .world .log)
 
 -- ---- what refuses a file
 
@@ -79,6 +91,6 @@ playRule s out =
     elim (eqb (refusalOf s (length out)) 0) [
       | true ↦
           output (record { answer = 0; written = entryBytes * count s })
-          (played (callsFrom s 0 (count s)) ++ drop (entryBytes * count s) out)
+          (transcript (callsOf s) freshWorld ++ drop (entryBytes * count s) out)
       | false ↦ output (record { answer = refusalOf s (length out); written = 0 }) out
     ]

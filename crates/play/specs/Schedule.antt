@@ -2,7 +2,7 @@
 use Prim.Native.Nat.{ℕ, zero, suc, _+_, _-_, _*_, _/_, _%_}
 use mathlib.Core.Bool.{Bool, true, false, not, _&&_}
 use mathlib.Core.List.{List, [], _∷_}
-use lib.ListN.{length, getD}
+use lib.ListN.{length, getD, drop}
 use lib.Dec.{eqb, ltb, leb}
 use Rattle.table.specs.Seek.{seek}
 use Rattle.read.specs.declared.Handle.{Handle}
@@ -11,6 +11,7 @@ use Rattle.write.specs.declared.Opening.{Opening}
 use Rattle.write.specs.declared.Opening.the-variants.{Publish, Try, Flush, Take}
 use Rattle.write.specs.declared.Call.{Call}
 use Rattle.write.specs.declared.Call.the-variants.{Create, On, Append, Open, Step, Run}
+use Rattle.play.specs.declared.schedule.Fields.{Fields}
 
 -- ---- numbers in bytes, the lowest first
 
@@ -61,6 +62,18 @@ firstUnknown s n = seek (unknownAt s) 0 n
 
 -- ---- a record
 
+-- the record that begins at byte `at`, field by field
+abbrev pub fieldsAt : List ℕ → ℕ → Fields
+fieldsAt s at =
+    record {
+      call = getD s at 0;
+      slot = getD s (at + 1) 0;
+      guard = getD s (at + 2) 0;
+      kind = getD s (at + 3) 0;
+      key = numberAt 8 s (at + 4);
+      amount = numberAt 8 s (at + 12);
+    }
+
 abbrev pub handleOf : ℕ → ℕ → ℕ → Handle
 handleOf call guard key =
     elim (eqb call 2) [
@@ -83,30 +96,36 @@ openingOf call =
     elim (eqb call 9)
     [ true ↦ Publish | false ↦ elim (eqb call 10) [ true ↦ Try | false ↦ elim (eqb call 11) [ true ↦ Flush | false ↦ Take ] ] ]
 
--- a call by its number: 1 create, 2 to 7 a handle's, 8 append, 9 to 12 the writer's, 13 step, 14 run
-abbrev pub callOf : ℕ → ℕ → ℕ → ℕ → ℕ → ℕ → Call
-callOf call slot guard kind key amount =
-    elim (eqb call 1) [
+-- what the fields mean, by the call's number: 1 create, 2 to 7 a handle's, 8 append, 9 to 12 the writer's, 13 step, 14 run
+abbrev pub callOf : Fields → Call
+callOf f =
+    elim (eqb (f .call) 1) [
       | true ↦ Create
       | false ↦
-          elim (ltb call 8) [
-            | true ↦ On slot (handleOf call guard key)
+          elim (ltb (f .call) 8) [
+            | true ↦ On (f .slot) (handleOf (f .call) (f .guard) (f .key))
             | false ↦
-                elim (eqb call 8) [
-                  | true ↦ Append kind key amount
+                elim (eqb (f .call) 8) [
+                  | true ↦ Append (f .kind) (f .key) (f .amount)
                   | false ↦
-                      elim (ltb call 13) [ true ↦ Open (openingOf call) | false ↦ elim (eqb call 13) [ true ↦ Step | false ↦ Run ] ]
+                      elim (ltb (f .call) 13)
+                      [ true ↦ Open (openingOf (f .call)) | false ↦ elim (eqb (f .call) 13) [ true ↦ Step | false ↦ Run ] ]
                 ]
           ]
     ]
 
--- record i, decoded
 unfoldable pub decoded : List ℕ → ℕ → Call
-decoded s i =
-    let a = startOf i in
-    callOf (getD s a 0) (getD s (a + 1) 0) (getD s (a + 2) 0) (getD s (a + 3) 0) (numberAt 8 s (a + 4)) (numberAt 8 s (a + 12))
+decoded s at = callOf (fieldsAt s at)
 
--- n records from i on, in order
+-- n records from byte `at` on, in order
 abbrev pub callsFrom : List ℕ → ℕ → ℕ → List Call
-callsFrom s i zero = []
-callsFrom s i (suc n) = decoded s i ∷ callsFrom s (suc i) n
+callsFrom s at zero = []
+callsFrom s at (suc n) = decoded s at ∷ callsFrom s (at + recordBytes) n
+
+-- the whole records of a part without head
+abbrev pub callsIn : List ℕ → List Call
+callsIn s = callsFrom s 0 (length s / recordBytes)
+
+-- those of a file
+abbrev pub callsOf : List ℕ → List Call
+callsOf s = callsIn (drop headBytes s)

@@ -1,16 +1,19 @@
--- One turn of the player: what comes of a call on the one slot that it looks at. A create passes one used slot a turn, and a run makes
--- one step a turn; every other call takes one turn.
+-- The turns of the player's loop, each on the one slot that it looks at. No public contract cites this.
 use Prim.Native.Nat.{ℕ, _+_}
 use mathlib.Core.Bool.{Bool, true, false}
 use mathlib.Core.List.{List}
-use lib.Dec.{eqb}
+use lib.Dec.{eqb, ltb, leb}
 use Rattle.table.specs.Answers.{number}
 use Rattle.table.specs.declared.Answer.{Answer}
-use Rattle.table.specs.declared.Answer.the-variants.{Done, NoSlot, NotNow, Locked, SlotsFull}
+use Rattle.table.specs.declared.Answer.the-variants as answer
 use Rattle.read.specs.declared.Control.{Control}
+use Rattle.read.specs.declared.Phase.{Phase}
+use Rattle.read.specs.declared.Phase.the-variants.{Idle, Begin, Poll, Copy, Drain, Keep, Swap, Snap, Null, Lock, LastSnap, LastPoll, Finish, Gone}
+use Rattle.read.specs.declared.Job.{Job}
+use Rattle.read.specs.declared.Job.the-variants.{Publish, Try, TakeFirst, TakeSecond}
 use Rattle.read.specs.declared.Slot.{Slot}
-use Rattle.read.specs.declared.Made.{Made}
-use Rattle.read.specs.Machine.{newSlot}
+use Rattle.read.specs.declared.Handle.{Handle}
+use Rattle.read.specs.Machine.{slotTotal, newSlot}
 use Rattle.read.specs.Admission.{createColumn, entry}
 use Rattle.read.specs.Handles.{handleOn}
 use Rattle.read.specs.Calls.{Lent, lent}
@@ -18,88 +21,101 @@ use Rattle.write.specs.declared.Moved.{Moved}
 use Rattle.write.specs.declared.Call.{Call}
 use Rattle.write.specs.declared.Call.the-variants.{Create, On, Append, Open, Step, Run}
 use Rattle.write.specs.Begins.{appendOn, openOn}
-use Rattle.play.specs.declared.turns.Turned.{Turned}
+use Rattle.write.specs.Steps.{refused, holds}
+use Rattle.play.specs.declared.turns.Far.{Far}
 
--- ---- step and run
+-- ---- a call that takes one turn
 
-abbrev pub isStep : Call → Bool
-isStep Create = false
-isStep (On i h) = false
-isStep (Append kind key amount) = false
-isStep (Open o) = false
-isStep Step = true
-isStep Run = true
+-- the first slot stands for one that is not there: nothing of it is changed
+abbrev pub within : ℕ → ℕ
+within i = elim (leb slotTotal i) [ true ↦ 0 | false ↦ i ]
 
-abbrev pub isRun : Call → Bool
-isRun Create = false
-isRun (On i h) = false
-isRun (Append kind key amount) = false
-isRun (Open o) = false
-isRun Step = false
-isRun Run = true
-
--- a step was made
-abbrev pub isMade : Moved → Bool
-isMade m = eqb (number (m .answer)) 0
-
--- a run goes on behind a step that was made and did not end the call
-abbrev pub goesOn : Call → Moved → Bool
-goesOn k m = elim (isRun k) [ true ↦ elim (isMade m) [ true ↦ eqb (m .value) 0 | false ↦ false ] | false ↦ false ]
-
--- the value of a step, or of a run with this step and the n made before it
-abbrev pub stepValue : Call → ℕ → Moved → ℕ
-stepValue k n m = elim (isRun k) [ true ↦ elim (isMade m) [ true ↦ n + 1 | false ↦ n ] | false ↦ m .value ]
-
--- ---- the other calls
-
--- the slot that a call looks at; a create has passed n slots
-abbrev pub target : Call → ℕ → ℕ
-target Create n = n
-target (On i h) n = i
-target (Append kind key amount) n = 0
-target (Open o) n = 0
-target Step n = 0
-target Run n = 0
+-- a create passes a slot that is in use
+abbrev pub passes : Call → ℕ → Slot → Bool
+passes Create i s = elim (ltb i slotTotal) [ true ↦ s .used | false ↦ false ]
+passes (On j h) i s = false
+passes (Append kind key amount) i s = false
+passes (Open o) i s = false
+passes Step i s = false
+passes Run i s = false
 
 -- create waits for the lock
 abbrev pub waits : Control → Bool
-waits c = eqb (entry (c .phase) createColumn) 7
+waits c = eqb (entry (c .phase) createColumn) (number answer.Locked)
 
--- the answer where there is no such slot: a create has passed them all
-abbrev pub absent : Call → Control → Answer
-absent Create c = elim (waits c) [ true ↦ Locked | false ↦ SlotsFull ]
-absent (On i h) c = NoSlot
-absent (Append kind key amount) c = NoSlot
-absent (Open o) c = NoSlot
-absent Step c = NoSlot
-absent Run c = NoSlot
+abbrev pub movedAs : Answer → ℕ → Control → Slot → ℕ → Moved
+movedAs a v c s e = record { answer = a; value = v; control = c; slot = s; snapshot = e }
 
--- more: the call goes on
-abbrev pub turnOf : Bool → Answer → ℕ → Control → Slot → ℕ → Turned
-turnOf more a v c s e = record { answer = a; value = v; control = c; slot = s; snapshot = e; more = more }
-
-abbrev pub over : Moved → Turned
-over m = turnOf false (m .answer) (m .value) (m .control) (m .slot) (m .snapshot)
-
--- a create at slot i that has passed n
-abbrev pub created : ℕ → ℕ → Control → Slot → ℕ → Turned
-created n i c s e =
-    elim (s .used) [
-      | true ↦ turnOf true Done (n + 1) c s e
-      | false ↦ elim (waits c) [ true ↦ turnOf false Locked 0 c s e | false ↦ turnOf false Done i c newSlot e ]
+-- i is the first free slot, or none is free
+abbrev pub created : ℕ → Control → Slot → ℕ → Moved
+created i c s e =
+    elim (waits c) [
+      | true ↦ refused answer.Locked c s e
+      | false ↦ elim (leb slotTotal i) [ true ↦ refused answer.SlotsFull c s e | false ↦ movedAs answer.Done i c newSlot e ]
     ]
 
--- a call on the handle in a slot
-abbrev pub touched : Control → ℕ → Made → Turned
-touched c e m = turnOf false (m .answer) (m .value) c (m .slot) e
+-- a call on the handle in slot i
+abbrev pub touched : ℕ → Handle → Control → Slot → ℕ → List ℕ → List ℕ → Moved
+touched i h c s e l r =
+    let m = handleOn c (eqb i 0) s h l r in
+    elim (leb slotTotal i) [ true ↦ refused answer.NoSlot c s e | false ↦ movedAs (m .answer) (m .value) c (m .slot) e ]
 
 -- step and run are made apart
-unfoldable pub turnOn : Call → ℕ → ℕ → Control → Slot → ℕ → List ℕ → List ℕ → List ℕ → Lent Turned
-turnOn Create n i c s e l r g = lent (created n i c s e) l r g
-turnOn (On j h) n i c s e l r g = lent (touched c e (handleOn c (eqb i 0) s h l r)) l r g
-turnOn (Append kind key amount) n i c s e l r g =
-    let m = appendOn kind key amount c s e l r g in
-    lent (over (m .made)) (m .left) (m .right) (m .log)
-turnOn (Open o) n i c s e l r g = lent (over (openOn o c s e)) l r g
-turnOn Step n i c s e l r g = lent (turnOf false NotNow 0 c s e) l r g
-turnOn Run n i c s e l r g = lent (turnOf false NotNow 0 c s e) l r g
+unfoldable pub turnOn : Call → ℕ → Control → Slot → ℕ → List ℕ → List ℕ → List ℕ → Lent Moved
+turnOn Create i c s e l r g = lent (created i c s e) l r g
+turnOn (On j h) i c s e l r g = lent (touched i h c s e l r) l r g
+turnOn (Append kind key amount) i c s e l r g = appendOn kind key amount c s e l r g
+turnOn (Open o) i c s e l r g = lent (openOn o c s e) l r g
+turnOn Step i c s e l r g = lent (refused answer.NotNow c s e) l r g
+turnOn Run i c s e l r g = lent (refused answer.NotNow c s e) l r g
+
+-- ---- step and run, step by step
+
+-- what a poll that is held answers, if it changes nothing
+abbrev pub waiting : Job → Answer
+waiting Publish = answer.Held
+waiting Try = answer.Done
+waiting TakeFirst = answer.Held
+waiting TakeSecond = answer.Held
+
+-- what a step answers that changes nothing, and Done for one that does; held: of the slot and the snapshot that it looks at
+abbrev pub halt : Phase → Job → Bool → Answer
+halt Idle j held = answer.NotNow
+halt Begin j held = answer.Done
+halt (Poll k) j held = elim held [ true ↦ waiting j | false ↦ answer.Done ]
+halt Copy j held = answer.Done
+halt Drain j held = answer.Done
+halt (Keep k) j held = answer.Done
+halt Swap j held = answer.Done
+halt (Snap k) j held = answer.Done
+halt Null j held = answer.Done
+halt Lock j held = answer.Done
+halt (LastSnap k) j held = answer.Done
+halt (LastPoll k) j held = elim held [ true ↦ answer.Held | false ↦ answer.Done ]
+halt Finish j held = answer.Done
+halt Gone j held = answer.Gone
+
+abbrev pub haltOf : Control → Slot → ℕ → Answer
+haltOf c s e = halt (c .phase) (c .job) (holds s e)
+
+abbrev pub far : Bool → Answer → ℕ → Far
+far goes a v = record { goes = goes; answer = a; value = v }
+
+-- n steps are made, and the next is at hand
+abbrev pub facing : ℕ → Answer → Far
+facing n a = far (eqb (number a) 0) a n
+
+abbrev pub over : Moved → Far
+over m = far false (m .answer) (m .value)
+
+-- a run behind a step, of which n were made before: next is what halts it there, if the call goes on
+abbrev pub ranOn : ℕ → Moved → Answer → Far
+ranOn n m next =
+    elim (eqb (number (m .answer)) 0) [
+      | true ↦ elim (eqb (m .value) 0) [ true ↦ facing (n + 1) next | false ↦ far false answer.Done (n + 1) ]
+      | false ↦ far false (m .answer) n
+    ]
+
+-- a step or a run behind a step
+abbrev pub wentOn : Bool → ℕ → Moved → Answer → Far
+wentOn run n m next = elim run [ true ↦ ranOn n m next | false ↦ over m ]

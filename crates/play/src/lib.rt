@@ -3,13 +3,22 @@ pub mod schedule;
 mod transcript;
 mod turns;
 
+use read::LOG_WORDS;
+use read::State;
+use schedule::HEAD;
+use schedule::RECORD;
+use table::WORDS;
+use transcript::ENTRY;
 use write::steps;
 ghost use mathlib.Core.Path.{_≡_};
 ghost use mathlib.Core.List.{_++_};
-ghost use Prim.Native.Nat.{_+_, _*_, _≤_};
+ghost use Prim.Native.Nat.{_≤_};
 ghost use lib.ListN.{length, drop};
-ghost use Rattle.play.specs.Schedule.{startOf, callsFrom};
-ghost use Rattle.play.specs.Player.{played, output, playRule};
+ghost use Rattle.read.specs.declared.Verdict.the-variants.{Admitted};
+ghost use Rattle.read.specs.Machine.{judged};
+ghost use Rattle.read.specs.Calls.{lent};
+ghost use Rattle.play.specs.Schedule.{callsIn};
+ghost use Rattle.play.specs.Player.{transcript as transcriptRule, machine, reached, output, playRule};
 
 // What came of a schedule: 0, or what refuses it, and how many bytes were written.
 #[repr(C)]
@@ -24,88 +33,81 @@ pub struct Flaw {
     pub place: usize,
 }
 
-const SLOTS: usize = 16;
+// The output is too short.
+const CROWDED: u64 = 25;
 
-const ENTRY: usize = 9;
+// Where the records of a part led: the machine's state, and how many bytes were read and written.
+pub struct Reached {
+    pub state: State,
+    pub used: usize,
+    pub written: usize,
+}
 
-const HELD: u8 = 13;
-
-// The transcript of `count` records, from a fresh machine. A turn touches one slot, which is copied out and in.
+// Plays the whole records of a part, which has no head, on a machine that is whole. A turn of the loop is a record, and looks at one
+// slot, which is copied out and in; a run's steps are turns of their own.
 fn play_on(
+    st: State,
     s: &[u8],
-    count: usize,
     out: &mut [u8],
     left: &mut [u64],
     right: &mut [u64],
     log: &mut [u64],
-)
-    requires { ⌜ (startOf count ≤ length (now s)) × (9 * count ≤ length (now out)) × (length (now left) ≡ 1026) × (length (now right) ≡ 1026) × (length (now log) ≡ 768) ⌝ }
-    ensures { λ _. ⌜ now (out .exit) ≡ played (callsFrom (now (s .entry)) 0 count) ++ drop (9 * count) (now (out .entry)) ⌝ }
+) -> Reached
+    requires { ⌜ (judged (st .control) (now left) (now right) (now log) ≡ Admitted) × (length (transcriptRule (callsIn (now s)) (machine st (now left) (now right) (now log))) ≤ length (now out)) ⌝ }
+    ensures { λ r. ⌜ (lent r (now (left .exit)) (now (right .exit)) (now (log .exit)) ≡ reached (now (s .entry)) (machine st (now (left .entry)) (now (right .entry)) (now (log .entry)))) × (now (out .exit) ≡ (let w = transcriptRule (callsIn (now (s .entry))) (machine st (now (left .entry)) (now (right .entry)) (now (log .entry))) in w ++ drop (length w) (now (out .entry)))) ⌝ }
 {
-    let fresh = read::start(left, right, log);
-    let st = fresh.state;
     let mut c = st.control;
     let mut slots = st.slots;
     let mut snaps = st.snapshots;
-    let mut i = 0;
-    let mut n: u64 = 0;
-    // Record `i` is at hand: `n` slots of its create are passed, or steps of its run made.
-    while i < count {
-        let call = schedule::decode(s, i);
-        if turns::is_step(call) {
+    let mut from = 0;
+    let mut to = 0;
+    while RECORD <= s.len() - from {
+        let call = schedule::decode(s, from);
+        let mut far = turns::none();
+        if turns::is_going(call) {
             let p = c.phase;
-            let k = steps::place(p);
-            let m = steps::advance(c, slots[k], snaps[k], left, right, log);
-            let a = m.answer;
-            // A held poll changes nothing.
-            if table::number(a) == HELD {
-                transcript::put(out, ENTRY * i, HELD, turns::step_value(call, n, m));
-                i += 1;
-                n = 0;
-                continue;
+            let mut k = steps::place(p);
+            far = turns::facing(0, c, slots[k], snaps[k]);
+            while far.goes {
+                let m = steps::advance(c, slots[k], snaps[k], left, right, log);
+                // A step changes no more of a slot than whether it is in use.
+                let t = m.slot;
+                let mut own = slots[k];
+                own.used = t.used;
+                slots[k] = own;
+                snaps[k] = m.snapshot;
+                c = m.control;
+                let p = c.phase;
+                k = steps::place(p);
+                far = turns::went_on(call, far.value, m, c, slots[k], snaps[k]);
             }
-            // A step changes no more of a slot than whether it is in use.
-            let t = m.slot;
-            let mut own = slots[k];
-            own.used = t.used;
+        } else {
+            let mut i = turns::named(call);
+            while turns::passes(call, i, slots[turns::within(i)]) {
+                i += 1;
+            }
+            let k = turns::within(i);
+            let m = turns::turn(call, i, c, slots[k], snaps[k], left, right, log);
+            let own = m.slot;
             slots[k] = own;
             snaps[k] = m.snapshot;
             c = m.control;
-            if turns::goes_on(call, m) {
-                n += 1;
-                continue;
-            }
-            transcript::put(
-                out,
-                ENTRY * i,
-                table::number(a),
-                turns::step_value(call, n, m),
-            );
-            i += 1;
-            n = 0;
-            continue;
+            far = turns::over(m);
         }
-        let k = turns::target(call, n);
-        if SLOTS <= k {
-            let a = turns::absent(call, c);
-            transcript::put(out, ENTRY * i, table::number(a), 0);
-            i += 1;
-            n = 0;
-            continue;
-        }
-        let t = turns::turn(call, n, k, c, slots[k], snaps[k], left, right, log);
-        let own = t.slot;
-        slots[k] = own;
-        snaps[k] = t.snapshot;
-        c = t.control;
-        if t.more {
-            n = t.value;
-            continue;
-        }
-        let a = t.answer;
-        transcript::put(out, ENTRY * i, table::number(a), t.value);
-        i += 1;
-        n = 0;
+        let a = far.answer;
+        transcript::put(out, to, table::number(a), far.value);
+        from += RECORD;
+        to += ENTRY;
+    }
+    let after = State {
+        control: c,
+        slots: slots,
+        snapshots: snaps,
+    };
+    Reached {
+        state: after,
+        used: from,
+        written: to,
     }
 }
 
@@ -121,19 +123,20 @@ pub extern "C" fn lrt_play(schedule: &[u8], out: &mut [u8]) -> Played
             written: 0,
         };
     }
-    let n = schedule::count(schedule);
-    if out.len() < ENTRY * n {
+    if out.len() < ENTRY * schedule::count(schedule) {
         return Played {
-            answer: 25,
+            answer: CROWDED,
             written: 0,
         };
     }
-    let mut left = [0u64; 1026];
-    let mut right = [0u64; 1026];
-    let mut log = [0u64; 768];
-    play_on(schedule, n, out, &mut left, &mut right, &mut log);
+    let mut left = [0u64; WORDS];
+    let mut right = [0u64; WORDS];
+    let mut log = [0u64; LOG_WORDS];
+    let fresh = read::start(&mut left, &mut right, &mut log);
+    let st = fresh.state;
+    let r = play_on(st, &schedule[HEAD..], out, &mut left, &mut right, &mut log);
     Played {
         answer: 0,
-        written: ENTRY * n,
+        written: r.written,
     }
 }

@@ -6,12 +6,32 @@ use write::Opening;
 ghost use mathlib.Core.Path.{_≡_};
 ghost use Prim.Native.Nat.{_+_, _*_, _^_, _≤_, _<_};
 ghost use lib.ListN.{length, getD};
-ghost use Rattle.play.specs.Schedule.{numberAt, count as countRule, startOf, marked as markedRule, versionOf, torn as tornRule, unknownAt, firstUnknown, handleOf, openingOf, callOf, decoded};
+ghost use Rattle.play.specs.Schedule.{numberAt, count as countRule, startOf, marked as markedRule, versionOf, torn as tornRule, unknownAt, firstUnknown, recordBytes, handleOf, openingOf, callOf, fieldsAt, decoded};
 ghost use Rattle.play.specs.Player.{flaw, flawOf};
 
-const HEAD: usize = 5;
+// How many bytes there are before the records, and in one.
+pub const HEAD: usize = 5;
 
-const RECORD: usize = 20;
+pub const RECORD: usize = 20;
+
+// What refuses a file: no mark, another version, a torn record, a call that is none.
+const UNMARKED: u64 = 21;
+
+const VERSION: u64 = 22;
+
+const TORN: u64 = 23;
+
+const UNKNOWN: u64 = 24;
+
+// A record's fields.
+pub struct Fields {
+    pub call: u64,
+    pub slot: usize,
+    pub guard: usize,
+    pub kind: u64,
+    pub key: u64,
+    pub amount: u64,
+}
 
 fn byte(s: &[u8], at: usize) -> u64
     requires { ⌜ at < length (now s) ⌝ }
@@ -88,19 +108,20 @@ fn opening_of(call: u64) -> Opening
     Opening::Take
 }
 
-// A call by its number.
-fn call_of(call: u64, slot: usize, guard: usize, kind: u64, key: u64, amount: u64) -> Call
-    ensures { λ r. ⌜ r ≡ callOf call slot guard kind key amount ⌝ }
+// What a record's fields mean.
+fn call_of(f: Fields) -> Call
+    ensures { λ r. ⌜ r ≡ callOf f ⌝ }
 {
+    let call = f.call;
     if call == 1 {
         return Call::Create;
     }
     if call < 8 {
-        let h = handle_of(call, guard, key);
-        return Call::On(slot, h);
+        let h = handle_of(call, f.guard, f.key);
+        return Call::On(f.slot, h);
     }
     if call == 8 {
-        return Call::Append(kind, key, amount);
+        return Call::Append(f.kind, f.key, f.amount);
     }
     if call < 13 {
         let o = opening_of(call);
@@ -112,20 +133,26 @@ fn call_of(call: u64, slot: usize, guard: usize, kind: u64, key: u64, amount: u6
     Call::Run
 }
 
-// Record `i` of a schedule that has it.
-pub(crate) fn decode(s: &[u8], i: usize) -> Call
-    requires { ⌜ startOf i + 20 ≤ length (now s) ⌝ }
-    ensures { λ r. ⌜ r ≡ decoded (now (s .entry)) i ⌝ }
+// The record that begins at byte `at`, field by field.
+fn fields_at(s: &[u8], at: usize) -> Fields
+    requires { ⌜ at + recordBytes ≤ length (now s) ⌝ }
+    ensures { λ r. ⌜ r ≡ fieldsAt (now (s .entry)) at ⌝ }
 {
-    let at = HEAD + RECORD * i;
-    call_of(
-        byte(s, at),
-        byte(s, at + 1) as usize,
-        byte(s, at + 2) as usize,
-        byte(s, at + 3),
-        eight(s, at + 4),
-        eight(s, at + 12),
-    )
+    Fields {
+        call: byte(s, at),
+        slot: byte(s, at + 1) as usize,
+        guard: byte(s, at + 2) as usize,
+        kind: byte(s, at + 3),
+        key: eight(s, at + 4),
+        amount: eight(s, at + 12),
+    }
+}
+
+pub(crate) fn decode(s: &[u8], at: usize) -> Call
+    requires { ⌜ at + recordBytes ≤ length (now s) ⌝ }
+    ensures { λ r. ⌜ r ≡ decoded (now (s .entry)) at ⌝ }
+{
+    call_of(fields_at(s, at))
 }
 
 fn marked(s: &[u8]) -> bool
@@ -168,27 +195,27 @@ pub fn check(s: &[u8]) -> Flaw
 {
     if !marked(s) {
         return Flaw {
-            answer: 21,
+            answer: UNMARKED,
             place: 0,
         };
     }
     if two(s, 3) != 1 {
         return Flaw {
-            answer: 22,
+            answer: VERSION,
             place: 0,
         };
     }
     let n = count(s);
     if (s.len() - HEAD) % RECORD != 0 {
         return Flaw {
-            answer: 23,
+            answer: TORN,
             place: n,
         };
     }
     let i = first_unknown(s, n);
     if i < n {
         return Flaw {
-            answer: 24,
+            answer: UNKNOWN,
             place: i,
         };
     }

@@ -5,7 +5,10 @@ ghost use Prim.Native.Nat.{_+_, _≤_};
 ghost use lib.ListN.{length, take, drop};
 ghost use lib.Seq.{sets};
 ghost use Rattle.play.specs.Schedule.{bytesOf};
-ghost use Rattle.play.specs.Player.{entryOf};
+ghost use Rattle.play.specs.Player.{entryBytes, entryOf};
+
+// How many bytes an entry has.
+pub const ENTRY: usize = 9;
 
 // Eight bytes of a number at byte `at`, the lowest first.
 fn eight(out: &mut [u8], at: usize, value: u64)
@@ -23,8 +26,8 @@ fn eight(out: &mut [u8], at: usize, value: u64)
 
 // The entry at byte `at` of the output.
 pub(crate) fn put(out: &mut [u8], at: usize, answer: u8, value: u64)
-    requires { ⌜ at + 9 ≤ length (now out) ⌝ }
-    ensures { λ _. ⌜ now (out .exit) ≡ take at (now (out .entry)) ++ (entryOf answer value ++ drop (at + 9) (now (out .entry))) ⌝ }
+    requires { ⌜ at + entryBytes ≤ length (now out) ⌝ }
+    ensures { λ _. ⌜ now (out .exit) ≡ take at (now (out .entry)) ++ (entryOf answer value ++ drop (at + entryBytes) (now (out .entry))) ⌝ }
 {
     out[at] = answer;
     eight(out, at + 1, value);

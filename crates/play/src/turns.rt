@@ -1,7 +1,10 @@
-// One turn of the player: a call on the one slot that it looks at. A create passes one used slot a turn, and a run makes one step
-// a turn; every other call takes one turn.
+// The turns of the player's loop, each on the one slot that it looks at, which is copied out and in. Step and run are made step by
+// step; every other call takes one turn.
 use read::Control;
 use read::Handle;
+use read::Job;
+use read::Phase;
+use read::SLOTS;
 use read::Slot;
 use read::admission;
 use read::guards;
@@ -10,17 +13,152 @@ use table::Answer;
 use write::Call;
 use write::Moved;
 use write::begins;
+use write::steps;
 ghost use mathlib.Core.Path.{_≡_};
+ghost use mathlib.Core.Bool.{_||_};
 ghost use Prim.Native.Nat.{_<_, _^_};
-ghost use lib.Dec.{eqb};
+ghost use Rattle.read.specs.Machine.{slotTotal};
 ghost use Rattle.read.specs.Calls.{lent};
-ghost use Rattle.read.specs.Handles.{handleOn};
-ghost use Rattle.play.specs.Turns.{isStep, isRun, isMade, goesOn, stepValue, target as targetRule, waits as waitsRule, absent as absentRule, turnOf, over as overRule, created, touched, turnOn};
+ghost use Rattle.write.specs.Numbers.{isStep, isRun, slotOf};
+ghost use Rattle.write.specs.Steps.{refused, holds};
+ghost use Rattle.play.specs.Turns.{passes as passesRule, within as withinRule, waits as waitsRule, movedAs, created, touched, turnOn, halt as haltRule, haltOf, far as farRule, facing as facingRule, over as overRule, ranOn, wentOn};
 
-// ---- step and run
+// ---- a call that takes one turn
 
-pub(crate) fn is_step(call: Call) -> bool
-    ensures { λ r. ⌜ r ≡ isStep call ⌝ }
+// The slot that a call names, 0 where it names none.
+pub(crate) fn named(call: Call) -> usize
+    ensures { λ r. ⌜ r ≡ slotOf call ⌝ }
+{
+    match call {
+        Call::Create => 0,
+        Call::On(i, _) => i,
+        Call::Append(_, _, _) => 0,
+        Call::Open(_) => 0,
+        Call::Step => 0,
+        Call::Run => 0,
+    }
+}
+
+// The first slot stands for one that is not there: nothing of it is changed.
+pub(crate) fn within(i: usize) -> usize
+    ensures { λ r. ⌜ (r ≡ withinRule i) × (r < slotTotal) ⌝ }
+{
+    if SLOTS <= i { 0 } else { i }
+}
+
+// A create passes a slot that is in use.
+pub(crate) fn passes(call: Call, i: usize, s: Slot) -> bool
+    ensures { λ r. ⌜ r ≡ passesRule call i s ⌝ }
+{
+    match call {
+        Call::Create => if i < SLOTS { s.used } else { false },
+        Call::On(_, _) => false,
+        Call::Append(_, _, _) => false,
+        Call::Open(_) => false,
+        Call::Step => false,
+        Call::Run => false,
+    }
+}
+
+// Create waits for the lock.
+fn waits(c: Control) -> bool
+    ensures { λ r. ⌜ r ≡ waitsRule c ⌝ }
+{
+    let p = c.phase;
+    admission::entry(p, 0) == table::number(Answer::Locked)
+}
+
+fn moved_as(a: Answer, value: u64, c: Control, s: Slot, e: u64) -> Moved
+    ensures { λ r. ⌜ r ≡ movedAs a value c s e ⌝ }
+{
+    Moved {
+        answer: a,
+        value: value,
+        control: c,
+        slot: s,
+        snapshot: e,
+    }
+}
+
+// Create, slot `i` being the first free one, or none.
+fn create(i: usize, c: Control, s: Slot, e: u64) -> Moved
+    ensures { λ r. ⌜ r ≡ created i c s e ⌝ }
+{
+    if waits(c) {
+        return moved_as(Answer::Locked, 0, c, s, e);
+    }
+    if SLOTS <= i {
+        return moved_as(Answer::SlotsFull, 0, c, s, e);
+    }
+    moved_as(Answer::Done, i as u64, c, guards::new_slot(), e)
+}
+
+// A call on the handle in slot `i`.
+fn touch<'a>(
+    i: usize,
+    h: Handle,
+    c: Control,
+    s: Slot,
+    e: u64,
+    left: &'a [u64],
+    right: &'a [u64],
+) -> Moved
+    ensures { λ r. ⌜ r ≡ touched i h c s e (now (left .entry)) (now (right .entry)) ⌝ }
+{
+    if SLOTS <= i {
+        return moved_as(Answer::NoSlot, 0, c, s, e);
+    }
+    let m = handles::handle(c, i == 0, s, h, left, right);
+    let answer = m.answer;
+    let slot = m.slot;
+    moved_as(answer, m.value, c, slot, e)
+}
+
+// A call at slot `i`. Step and run are made apart.
+pub(crate) fn turn(
+    call: Call,
+    i: usize,
+    c: Control,
+    s: Slot,
+    e: u64,
+    left: &mut [u64],
+    right: &mut [u64],
+    log: &mut [u64],
+) -> Moved
+    ensures { λ r. ⌜ lent r (now (left .exit)) (now (right .exit)) (now (log .exit)) ≡ turnOn call i c s e (now (left .entry)) (now (right .entry)) (now (log .entry)) ⌝ }
+{
+    match call {
+        Call::Create => create(i, c, s, e),
+        Call::On(_, h) => touch(i, h, c, s, e, &left[..], &right[..]),
+        Call::Append(kind, key, amount) => begins::append_on(
+            kind,
+            key,
+            amount,
+            c,
+            s,
+            e,
+            left,
+            right,
+            log,
+        ),
+        Call::Open(o) => begins::open_on(o, c, s, e),
+        Call::Step => moved_as(Answer::NotNow, 0, c, s, e),
+        Call::Run => moved_as(Answer::NotNow, 0, c, s, e),
+    }
+}
+
+// ---- step and run, step by step
+
+// How far a call has come: whether it goes on, and what it says: for a run that goes on, how many steps it made.
+pub(crate) struct Far {
+    pub goes: bool,
+    pub answer: Answer,
+    pub value: u64,
+}
+
+// Step or run.
+pub(crate) fn is_going(call: Call) -> bool
+    ensures { λ r. ⌜ r ≡ (isStep call || isRun call) ⌝ }
 {
     match call {
         Call::Create => false,
@@ -45,179 +183,94 @@ fn is_run(call: Call) -> bool
     }
 }
 
-// A step was made.
-fn is_made(m: Moved) -> bool
-    ensures { λ r. ⌜ r ≡ isMade m ⌝ }
-{
-    let a = m.answer;
-    table::number(a) == 0
-}
-
-// A run goes on behind a step that was made and did not end the call.
-pub(crate) fn goes_on(call: Call, m: Moved) -> bool
-    ensures { λ r. ⌜ r ≡ goesOn call m ⌝ }
-{
-    if is_run(call) {
-        if is_made(m) {
-            return m.value == 0;
-        }
-    }
-    false
-}
-
-// The value of a step, or of a run with this step and the `n` made before it.
-pub(crate) fn step_value(call: Call, n: u64, m: Moved) -> u64
-    requires { ⌜ n < 2 ^ 32 ⌝ }
-    ensures { λ r. ⌜ r ≡ stepValue call n m ⌝ }
-{
-    if is_run(call) {
-        if is_made(m) {
-            return n + 1;
-        }
-        return n;
-    }
-    m.value
-}
-
-// ---- the other calls
-
-// What comes of a turn. `more`: the call goes on, and `value` counts the slots passed or the steps made.
-pub(crate) struct Turned {
-    pub answer: Answer,
-    pub value: u64,
-    pub control: Control,
-    pub slot: Slot,
-    pub snapshot: u64,
-    pub more: bool,
-}
-
-// The slot that a call looks at; a create has passed `n` slots.
-pub(crate) fn target(call: Call, n: u64) -> usize
-    ensures { λ r. ⌜ r ≡ targetRule call n ⌝ }
-{
-    match call {
-        Call::Create => n as usize,
-        Call::On(i, _) => i,
-        Call::Append(_, _, _) => 0,
-        Call::Open(_) => 0,
-        Call::Step => 0,
-        Call::Run => 0,
-    }
-}
-
-// Create waits for the lock.
-fn waits(c: Control) -> bool
-    ensures { λ r. ⌜ r ≡ waitsRule c ⌝ }
+// What a step answers that changes nothing, and Done for one that does.
+fn halt(c: Control, held: bool) -> Answer
+    ensures { λ r. ⌜ r ≡ haltRule (c .phase) (c .job) held ⌝ }
 {
     let p = c.phase;
-    admission::entry(p, 0) == 7
-}
-
-// The answer where there is no such slot.
-pub(crate) fn absent(call: Call, c: Control) -> Answer
-    ensures { λ r. ⌜ r ≡ absentRule call c ⌝ }
-{
-    match call {
-        Call::Create => {
-            if waits(c) {
-                Answer::Locked
+    let j = c.job;
+    match p {
+        Phase::Idle => Answer::NotNow,
+        Phase::Begin => Answer::Done,
+        Phase::Poll(_) => {
+            if held {
+                match j {
+                    Job::Publish => Answer::Held,
+                    Job::Try => Answer::Done,
+                    Job::TakeFirst => Answer::Held,
+                    Job::TakeSecond => Answer::Held,
+                }
             } else {
-                Answer::SlotsFull
+                Answer::Done
             }
         }
-        Call::On(_, _) => Answer::NoSlot,
-        Call::Append(_, _, _) => Answer::NoSlot,
-        Call::Open(_) => Answer::NoSlot,
-        Call::Step => Answer::NoSlot,
-        Call::Run => Answer::NoSlot,
+        Phase::Copy => Answer::Done,
+        Phase::Drain => Answer::Done,
+        Phase::Keep(_) => Answer::Done,
+        Phase::Swap => Answer::Done,
+        Phase::Snap(_) => Answer::Done,
+        Phase::Null => Answer::Done,
+        Phase::Lock => Answer::Done,
+        Phase::LastSnap(_) => Answer::Done,
+        Phase::LastPoll(_) => { if held { Answer::Held } else { Answer::Done } }
+        Phase::Finish => Answer::Done,
+        Phase::Gone => Answer::Gone,
     }
 }
 
-fn turn_of(more: bool, answer: Answer, value: u64, c: Control, s: Slot, e: u64) -> Turned
-    ensures { λ r. ⌜ r ≡ turnOf more answer value c s e ⌝ }
+fn far_of(goes: bool, a: Answer, value: u64) -> Far
+    ensures { λ r. ⌜ r ≡ farRule goes a value ⌝ }
 {
-    Turned {
-        answer: answer,
+    Far {
+        goes: goes,
+        answer: a,
         value: value,
-        control: c,
-        slot: s,
-        snapshot: e,
-        more: more,
     }
+}
+
+// Nothing was said yet.
+pub(crate) fn none() -> Far {
+    far_of(false, Answer::Done, 0)
+}
+
+// The steps made are `n`, and the next is at hand.
+pub(crate) fn facing(n: u64, c: Control, s: Slot, e: u64) -> Far
+    ensures { λ r. ⌜ r ≡ facingRule n (haltOf c s e) ⌝ }
+{
+    let a = halt(c, steps::holds(s, e));
+    far_of(table::number(a) == 0, a, n)
 }
 
 // The call is over.
-fn over(m: Moved) -> Turned
+pub(crate) fn over(m: Moved) -> Far
     ensures { λ r. ⌜ r ≡ overRule m ⌝ }
 {
-    let answer = m.answer;
-    let control = m.control;
-    let slot = m.slot;
-    turn_of(false, answer, m.value, control, slot, m.snapshot)
+    let a = m.answer;
+    far_of(false, a, m.value)
 }
 
-// A create at slot `i` that has passed `n`.
-fn create(n: u64, i: usize, c: Control, s: Slot, e: u64) -> Turned
+// A run behind a step, of which `n` were made before; the next one's slot and snapshot are `s` and `e`.
+fn ran_on(n: u64, m: Moved, c: Control, s: Slot, e: u64) -> Far
     requires { ⌜ n < 2 ^ 32 ⌝ }
-    ensures { λ r. ⌜ r ≡ created n i c s e ⌝ }
+    ensures { λ r. ⌜ r ≡ ranOn n m (haltOf c s e) ⌝ }
 {
-    if s.used {
-        return turn_of(true, Answer::Done, n + 1, c, s, e);
+    let a = m.answer;
+    if table::number(a) != 0 {
+        return far_of(false, a, n);
     }
-    if waits(c) {
-        return turn_of(false, Answer::Locked, 0, c, s, e);
+    if m.value != 0 {
+        return far_of(false, Answer::Done, n + 1);
     }
-    turn_of(false, Answer::Done, i as u64, c, guards::new_slot(), e)
+    facing(n + 1, c, s, e)
 }
 
-fn touch<'a>(
-    i: usize,
-    h: Handle,
-    c: Control,
-    s: Slot,
-    e: u64,
-    left: &'a [u64],
-    right: &'a [u64],
-) -> Turned
-    ensures { λ r. ⌜ r ≡ touched c e (handleOn c (eqb i 0) s h (now (left .entry)) (now (right .entry))) ⌝ }
-{
-    let m = handles::handle(c, i == 0, s, h, left, right);
-    let answer = m.answer;
-    let slot = m.slot;
-    turn_of(false, answer, m.value, c, slot, e)
-}
-
-// A turn of a call at slot `i`, of which a create has passed `n`. Step and run are made apart.
-pub(crate) fn turn(
-    call: Call,
-    n: u64,
-    i: usize,
-    c: Control,
-    s: Slot,
-    e: u64,
-    left: &mut [u64],
-    right: &mut [u64],
-    log: &mut [u64],
-) -> Turned
+// A step or a run behind a step, of which `n` were made before.
+pub(crate) fn went_on(call: Call, n: u64, m: Moved, c: Control, s: Slot, e: u64) -> Far
     requires { ⌜ n < 2 ^ 32 ⌝ }
-    ensures { λ r. ⌜ lent r (now (left .exit)) (now (right .exit)) (now (log .exit)) ≡ turnOn call n i c s e (now (left .entry)) (now (right .entry)) (now (log .entry)) ⌝ }
+    ensures { λ r. ⌜ r ≡ wentOn (isRun call) n m (haltOf c s e) ⌝ }
 {
-    match call {
-        Call::Create => create(n, i, c, s, e),
-        Call::On(_, h) => touch(i, h, c, s, e, &left[..], &right[..]),
-        Call::Append(kind, key, amount) => over(begins::append_on(
-            kind,
-            key,
-            amount,
-            c,
-            s,
-            e,
-            left,
-            right,
-            log,
-        )),
-        Call::Open(o) => over(begins::open_on(o, c, s, e)),
-        Call::Step => turn_of(false, Answer::NotNow, 0, c, s, e),
-        Call::Run => turn_of(false, Answer::NotNow, 0, c, s, e),
+    if is_run(call) {
+        return ran_on(n, m, c, s, e);
     }
+    over(m)
 }

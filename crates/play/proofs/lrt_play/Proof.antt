@@ -1,21 +1,34 @@
 -- The rule's case under the tests that led there; the loop's contract gives the transcript.
-use Prim.Native.Nat.{ℕ, _*_}
+use Prim.Native.Nat.{ℕ, _≤_}
 use mathlib.Core.Path.{_≡_, sym, ap, _∙_}
-use mathlib.Core.List.{_++_}
+use mathlib.Core.List.{List}
 use native.Mathlib.Omega.{arith}
-use lib.ListN.{drop, length-replicate}
-use borrow.Author.Needs.{needs}
+use lib.ListN.{length, drop, replicate, length-replicate}
+use Rattle.table.specs.Copy.{words}
+use Rattle.read.specs.Machine.{logWords}
+use Rattle.write.specs.World.{World}
 use Rattle.play.specs.declared.Flaw.{Flaw}
-use Rattle.play.specs.Schedule.{callsFrom}
-use Rattle.play.specs.Player.{played, flawOf}
+use Rattle.play.specs.Schedule.{callsIn}
+use Rattle.play.specs.Player.{transcript, flawOf}
+use Rattle.play.proofs.Lengths.{part-length, part-written, part-bytes, started-fresh, started-whole}
 use Rattle.play.proofs.Records.{flawless-within}
 use Rattle.play.proofs.Rule.{play-flawed, play-short, play-made}
+use borrow.Author.Needs.{needs}
+use borrow.Rule.Slice.PartAt.{part-to-end}
 use Rattle.play.proofs.lrt_play.Statement.{statement}
 use Rattle.play.proofs.lrt_play.Tie as tie
 
 -- nothing is wrong with the file
 sound : (c : tie.Else1) → flawOf (c .before .before .before .before .before .args .schedule .now) .answer ≡ 0
 sound c = ap (λ (f : Flaw). f .answer) (sym (c .before .before .check .ensures)) ∙ c .if1 .left
+
+-- so it has its head
+long : (t : tie.After-st) → 5 ≤ length (t .before .before .before .before .before .before .before .before .before .before .before .before .before .before .before .args .schedule .now)
+long t = omega (arith, flawless-within (t .before .before .before .before .before .before .before .before .before .before .before .before .before .before .before .args .schedule .now) (sound (t .before .before .before .before .before .before .before .before .before .before)))
+
+-- the machine's own memory has the lengths that it asks
+abbrev zero : (n : ℕ) → length (replicate {A = ℕ} n 0) ≡ n
+zero n = length-replicate {A = ℕ} n 0
 
 check-requires : tie.Need-check-requires
 check-requires c κs = search needs
@@ -33,9 +46,29 @@ mul-if2 c = search needs
 
 returns-2 : tie.Need-returns-2
 returns-2 c =
-    let e = c .before .before in
-    let a = e .before .before .before .before .before .args in
-    play-short (a .schedule .now) (a .out .now) (sound e) (omega (arith, c .if2 .taken, c .before .count .ensures))
+    let a = c .before .before .before .before .before .before .before .args in
+    play-short (a .schedule .now) (a .out .now) (sound (c .before .before)) (omega (arith, c .if2 .taken, c .before .count .ensures))
+
+slice-aggregate-start : tie.Need-slice-aggregate-start
+slice-aggregate-start c = search needs
+
+slice-aggregate-start-2 : tie.Need-slice-aggregate-start-2
+slice-aggregate-start-2 c = search needs
+
+slice-aggregate-start-3 : tie.Need-slice-aggregate-start-3
+slice-aggregate-start-3 c = search needs
+
+start-requires : tie.Need-start-requires
+start-requires c κs = search needs
+
+sub-play-on : tie.Need-sub-play-on
+sub-play-on c = long c
+
+part-play-on-start : tie.Need-part-play-on-start
+part-play-on-start c = long c
+
+part-play-on-end : tie.Need-part-play-on-end
+part-play-on-end c = search needs
 
 slice-aggregate-play-on : tie.Need-slice-aggregate-play-on
 slice-aggregate-play-on c = search needs
@@ -48,30 +81,29 @@ slice-aggregate-play-on-3 c = search needs
 
 play-on-requires : tie.Need-play-on-requires
 play-on-requires c κs =
-    let e = c .before .before .before .before .before .before in
-    let a = e .before .before .before .before .before .args in (
-      omega (arith, flawless-within (a .schedule .now) (sound e), c .before .before .before .before .before .count .ensures),
-      omega (arith, c .before .before .before .before .if2 .left),
-      length-replicate {A = ℕ} 1026 0,
-      length-replicate {A = ℕ} 1026 0,
-      length-replicate {A = ℕ} 768 0,
+    let t = c .before .before .before .before .before in
+    let a = t .before .before .before .before .before .before .before .before .before .before .before .before .before .before .before .args in
+    let s = a .schedule .now in
+    let fit : (b : List ℕ) → b ≡ drop 5 s → (w : World) → length (transcript (callsIn b) w) ≤ length (a .out .now) =
+    λ b p w. omega (arith, part-length s p w, t .before .before .before .before .before .before .before .before .if2 .left, t .before .before .before .before .before .before .before .before .before .count .ensures) in
+    let e = t .before .before .before .before .start .ensures in (
+      started-whole _ _ _ (zero words) (zero words) (zero logWords) e,
+      fit _ (part-to-end s 5) _,
     )
-
-mul-t9 : tie.Need-mul-t9
-mul-t9 c = search needs
 
 same-length : tie.Need-same-length
 same-length c = search needs
 
 returns-3 : tie.Need-returns-3
 returns-3 c =
-    let n = c .before .before .before .before .before .before .before .before .before .before .before in
-    let e = n .before in
-    let a = e .before .before .before .before .before .args in
-    play-made (a .schedule .now) (a .out .now) (sound e) (ap (λ (k : ℕ). 9 * k) (n .count .ensures))
-    (omega (arith, c .before .before .before .before .before .before .before .before .before .before .if2 .left, n .count .ensures))
-    (c .before .before .before .before .before .play-on .ensures
-    ∙ ap (λ (k : ℕ). played (callsFrom (a .schedule .now) 0 k) ++ drop (9 * k) (a .out .now)) (n .count .ensures))
+    let p = c .before .before .before .before .before .play-on in
+    let t = c .before .before .before .before .before .before .before .before .before .before .before in
+    let a = t .before .before .before .before .before .before .before .before .before .before .before .before .before .before .before .args in
+    let s = a .schedule .now in
+    let w = started-fresh _ _ _ (zero words) (zero words) (zero logWords) (t .before .before .before .before .start .ensures) in
+    play-made s (a .out .now) (sound (t .before .before .before .before .before .before .before .before .before .before)) (part-written s (part-to-end s 5) _ (p .ensures .0))
+    (omega (arith, t .before .before .before .before .before .before .before .before .if2 .left, t .before .before .before .before .before .before .before .before .before .count .ensures))
+    (p .ensures .1 ∙ part-bytes s (part-to-end s 5) (a .out .now) w)
 
 pub lrt-play-spec : {M : Type 1} → statement M
 lrt-play-spec =
@@ -82,10 +114,16 @@ lrt-play-spec =
     count-requires
     mul-if2
     returns-2
+    slice-aggregate-start
+    slice-aggregate-start-2
+    slice-aggregate-start-3
+    start-requires
+    sub-play-on
+    part-play-on-start
+    part-play-on-end
     slice-aggregate-play-on
     slice-aggregate-play-on-2
     slice-aggregate-play-on-3
     play-on-requires
-    mul-t9
     same-length
     returns-3)

@@ -1,408 +1,385 @@
--- Before a turn at record i the output holds the entries of the records before it, and what is due of the call at hand, with the
--- records behind it, gives the rest. Each way through the body is one law of the loop.
-use Prim.Native.Nat.{ℕ, _+_, _-_, _*_, _^_, _≤_, _<_}
+-- Before a record the output holds the entries of those before it, and the rest gives what is missing (`Plays`). Before a step its call is
+-- on its way (`Going`), and before a slot that a create may pass its search ends where it would from the first. Each way through the
+-- body is one law.
+use Prim.Native.Nat.{ℕ, _+_, _-_, _<_}
+use mathlib.Core.Path.{_≡_, refl, sym, ap, subst, _∙_}
+use mathlib.Core.Bool.{true}
 use mathlib.Core.List.{_++_}
-use mathlib.Core.Path.{_≡_, sym, ap, _∙_}
+use mathlib.Core.Logic.{⊎-elim}
 use native.Mathlib.Omega.{arith}
 use borrow.Author.Needs.{needs}
-use lib.ListN.{length, take, drop}
-use Rattle.table.specs.Answers.{number}
-use Rattle.read.specs.Machine.{slotCount, noSlot}
-use Rattle.write.specs.Runs.{left as leftOf}
-use Rattle.write.proofs.RunLaws.{getD-any}
+use lib.ListN.{length, getD, take, drop, length-map}
+use Rattle.read.specs.declared.Slot.{Slot}
+use Rattle.read.specs.Machine.{slotTotal, slotCount, noSlot}
+use Rattle.write.specs.declared.Call.{Call}
+use Rattle.write.specs.Numbers.{isRun, slotOf}
+use Rattle.write.specs.Steps.{place}
+use Rattle.write.specs.Machine.{callOn, callRule}
+use Rattle.write.specs.World.{played}
+use Rattle.write.proofs.RunLaws.{stateOf}
+use Rattle.write.proofs.NeverBroken.{Sound}
 use Rattle.write.proofs.Turns.{place-below}
-use Rattle.play.specs.Schedule.{startOf, callsFrom}
-use Rattle.play.specs.Player.{played, entryOf}
-use Rattle.play.proofs.Plays.{Plays, plays-start, plays-end, step-ends, step-goes, step-fewer, held-ends, absent-ends, turn-ends, turn-goes, turn-fewer, start-fresh}
+use Rattle.play.specs.Schedule.{decoded, callsIn}
+use Rattle.play.specs.Player.{entryBytes, entryOf, transcript, machine}
+use Rattle.play.specs.Turns.{within}
+use Rattle.play.proofs.Turned.{sought, passes-below, sought-next, sought-here, read-slot, read-within}
+use Rattle.play.proofs.Going.{Said, Goes, Going, going-begins, going-steps, sound-after, next-slot, said-as, ahead, ahead-less}
+use Rattle.play.proofs.Plays.{Plays, plays-start, plays-room, plays-next, plays-end, plays-reached, sound-judged, turn-said}
 use Rattle.play.proofs.play_on.Statement.{statement}
 use Rattle.play.proofs.play_on.Tie as tie
 
+abbrev Inv-loop2 : tie.InvT-loop2
+Inv-loop2 s out left₀ right₀ log₀ c₀ slots₀ snaps₀ from to call far₀ k₀ left right log c slots snaps far k =
+    Going (callOn call (stateOf c₀ slots₀ snaps₀) left₀ right₀ log₀) (isRun call) far c slots snaps left right log × (k ≡ place (c .phase))
+
+abbrev μ-loop2 : tie.MeasureT-loop2
+μ-loop2 s out left₀ right₀ log₀ c₀ slots₀ snaps₀ from to call far₀ k₀ left right log c slots snaps far k = ahead far c
+
+abbrev Inv-loop3 : tie.InvT-loop3
+Inv-loop3 s out left right log c slots snaps from to call i₀ i = sought call slots i ≡ sought call slots (slotOf call)
+
+abbrev μ-loop3 : tie.MeasureT-loop3
+μ-loop3 s out left right log c slots snaps from to call i₀ i = slotTotal - i
+
 abbrev Inv-loop : tie.InvT-loop
-Inv-loop s count out₀ left₀ right₀ log₀ c₀ slots₀ snaps₀ i₀ n₀ out left right log c slots snaps i n =
-    Plays s count out₀ (played (callsFrom s 0 count)) out i n c slots snaps left right log × (startOf count ≤ length s)
-    × (9 * count ≤ length out₀) × (9 * count < 2 ^ 63)
+Inv-loop s out₀ left₀ right₀ log₀ c₀ slots₀ snaps₀ from₀ to₀ out left right log c slots snaps from to =
+    let w = machine (stateOf c₀ slots₀ snaps₀) left₀ right₀ log₀ in
+    Plays s out₀ (transcript (callsIn s) w) (played callRule (callsIn s) w .world) out from to c slots snaps left right log
 
 abbrev μ-loop : tie.MeasureT-loop
-μ-loop s count out₀ left₀ right₀ log₀ c₀ slots₀ snaps₀ i₀ n₀ out left right log c slots snaps i n =
-    2000 * (count - i) + (leftOf c + (slotCount - n))
+μ-loop s out₀ left₀ right₀ log₀ c₀ slots₀ snaps₀ from₀ to₀ out left right log c slots snaps from to = length s - from
 
--- the function's entry
-abbrev entry : tie.After-snaps Inv-loop μ-loop → tie.Start Inv-loop μ-loop
-entry c = c .before .before .before .before .before .before .before .before .before .before .before .before .before .before .before .before .before .before .before
+-- the machine that is handed in
+begins : (a : tie.Start Inv-loop2 μ-loop2 Inv-loop3 μ-loop3 Inv-loop μ-loop) → Sound (a .args .st) (a .args .left .now) (a .args .right .now) (a .args .log .now)
+unfolding slotCount
+begins a =
+    sound-judged (a .args .st) (a .args .left .now) (a .args .right .now) (a .args .log .now) (a .pre .0)
+    (sym (length-map (a .args .st .slots) _) ∙ a .good .0 .1 .1 .1 .0 .1 .0 .1)
+    (sym (length-map (a .args .st .snapshots) _) ∙ a .good .0 .1 .1 .1 .1 .0 .1 .0 .1)
 
--- the slot that a step looks at is there
-placed : (c : tie.After-place Inv-loop μ-loop) → c .place .result < 16
-placed c = place-below (c .before .before .before .before .before .loop .inv .0 .sound .good .whole) (c .place .ensures)
+-- a step's slot is there
+placed : (c : tie.After-place Inv-loop2 μ-loop2 Inv-loop3 μ-loop3 Inv-loop μ-loop) → c .place .result < slotTotal
+placed c = place-below (c .before .before .before .before .before .before .loop .inv .sound .good .whole) (c .place .ensures)
 
-start-requires : tie.Need-start-requires Inv-loop μ-loop
-start-requires c κs = search needs
+inside : (c : tie.In-loop2 Inv-loop2 μ-loop2 Inv-loop3 μ-loop3 Inv-loop μ-loop) → c .before .loop2 .k < slotTotal
+inside c = place-below (c .before .loop2 .inv .0 .sound .good .whole) (c .before .loop2 .inv .1)
 
-loop-holds : tie.Need-loop-holds Inv-loop μ-loop
+-- the call goes on
+going : (c : tie.In-loop2 Inv-loop2 μ-loop2 Inv-loop3 μ-loop3 Inv-loop μ-loop) →
+    (let v = c .before .loop2 in
+    let b = c .before .before .before .before .before .before .before .before .before .before .loop in
+    let k = c .before .before .before .before .before .before .before .before .decode .result in
+    Goes (callOn k (stateOf (b .c) (b .slots) (b .snaps)) (b .left) (b .right) (b .log)) (isRun k) (v .far .value) (v .c) (v .slots) (v .snaps) (v .left) (v .right) (v .log))
+going c = c .before .loop2 .inv .0 .goes (c .loop2-test .taken)
+
+own : (c : tie.In-loop2 Inv-loop2 μ-loop2 Inv-loop3 μ-loop3 Inv-loop μ-loop) (d : Slot) → (let v = c .before .loop2 in getD (v .slots) (v .k) d ≡ getD (v .slots) (v .k) noSlot)
+own c d = read-slot (c .before .loop2 .slots) d (c .before .loop2 .inv .0 .sound .slots) (inside c)
+
+placed-next : (c : tie.After-place2 Inv-loop2 μ-loop2 Inv-loop3 μ-loop3 Inv-loop μ-loop) → c .place2 .result < slotTotal
+placed-next c =
+    let e = c .before .before .before .before .before .before .before .before .before .before .before .before .before .before .before in
+    let v = e .before .loop2 .inv in
+    place-below (sound-after (going e) (v .0 .sound) (v .1) (own e _) (c .before .before .before .before .before .before .before .before .before .before .advance .ensures) .good .whole) (c .place2 .ensures)
+
+-- the slot that a create may pass is there
+below : (c : tie.Then2 Inv-loop2 μ-loop2 Inv-loop3 μ-loop3 Inv-loop μ-loop) → c .before .before .before .before .loop3 .i < slotTotal
+below c =
+    let v = c .before .before .before .before .before .before .before .before .before .before .before .loop in
+    passes-below (v .slots) (c .before .before .before .before .loop3 .i) (read-within (v .slots) (c .before .before .before .before .loop3 .i) _ (v .inv .sound .slots) (c .before .before .before .within .ensures)) (c .before .before .before .before .before .before .before .before .before .decode .result)
+    (sym (c .before .passes .ensures) ∙ c .if2 .taken)
+
+-- what the record's call said, by either way
+says : (j : tie.Joined1 Inv-loop2 μ-loop2 Inv-loop3 μ-loop3 Inv-loop μ-loop) →
+    (let v = j .before .before .before .before .before .loop in
+    let s = j .before .before .before .before .before .before .before .before .before .before .before .before .before .before .args .s .now in
+    let f = j .if1 in
+    Said (callOn (decoded s (v .from)) (stateOf (v .c) (v .slots) (v .snaps)) (v .left) (v .right) (v .log)) (f .far) (f .c) (f .slots) (f .snaps) (f .left) (f .right) (f .log))
+says j =
+    let v = j .before .before .before .before .before .loop in
+    let d = j .before .before .before .decode in
+    let f = j .if1 in
+    let p = j .before .is-going .ensures in
+    subst
+    (λ (k : Call). Said (callOn k (stateOf (v .c) (v .slots) (v .snaps)) (v .left) (v .right) (v .log)) (f .far) (f .c) (f .slots) (f .snaps) (f .left) (f .right) (f .log))
+    (d .ensures)
+    (⊎-elim
+    (λ w. said-as (w .4 .inv .0 .ends (w .5 .left)) (w .6) (w .7) (w .8) (w .9) (w .10) (w .11) (w .12))
+    (λ w.
+    let n = v .inv .sound .slots in
+    let q = sought-here (v .slots) (w .2 .i) (read-within (v .slots) (w .2 .i) _ n (w .3 .ensures)) (d .result) (sym (w .5 .ensures) ∙ w .6 .left) in
+    said-as
+    (turn-said (d .result) (sym p ∙ w .0 .left) (v .c) (v .slots) (v .snaps) (v .left) (v .right) (v .log) (sym q ∙ w .2 .inv) (w .7 .ensures .0)
+    (read-slot (v .slots) _ n (w .7 .ensures .1)) (w .12 .ensures))
+    (w .22) (w .23) (w .24) (w .25) (w .26) (w .27) (w .28 ∙ w .21 .ensures))
+    (f .came))
+
+loop-holds : tie.Need-loop-holds Inv-loop2 μ-loop2 Inv-loop3 μ-loop3 Inv-loop μ-loop
+unfolding slotCount
 loop-holds c =
-    let a = entry c in (
-      plays-start (a .args .s .now) (a .args .count) (a .args .out .now)
-          (c .before .before .before .before .before .before .before .before .before .before .start .ensures
-          ∙ start-fresh (a .args .left .now) (a .args .right .now) (a .args .log .now) (a .pre .2) (a .pre .3) (a .pre .4)),
-      a .pre .0,
-      a .pre .1,
-      omega (arith, a .pre .1, a .good),
-    )
+    let a = c .before .before .before .before .before .before .before .before in
+    plays-start (a .args .s .now) (a .args .out .now) (a .args .st) (a .args .left .now) (a .args .right .now) (a .args .log .now) (begins a)
+    (a .pre .1)
 
-decode-requires : tie.Need-decode-requires Inv-loop μ-loop
-decode-requires c κs = omega (arith, c .before .loop .inv .1)
+sub-loop : tie.Need-sub-loop Inv-loop2 μ-loop2 Inv-loop3 μ-loop3 Inv-loop μ-loop
+sub-loop c = omega (arith, c .loop .inv .upto)
 
-is-step-requires : tie.Need-is-step-requires Inv-loop μ-loop
-is-step-requires c κs = search needs
+decode-requires : tie.Need-decode-requires Inv-loop2 μ-loop2 Inv-loop3 μ-loop3 Inv-loop μ-loop
+decode-requires c κs = omega (arith, c .before .loop .inv .upto, c .loop-test .taken)
 
-place-requires : tie.Need-place-requires Inv-loop μ-loop
+none-requires : tie.Need-none-requires Inv-loop2 μ-loop2 Inv-loop3 μ-loop3 Inv-loop μ-loop
+none-requires c κs = search needs
+
+is-going-requires : tie.Need-is-going-requires Inv-loop2 μ-loop2 Inv-loop3 μ-loop3 Inv-loop μ-loop
+is-going-requires c κs = search needs
+
+place-requires : tie.Need-place-requires Inv-loop2 μ-loop2 Inv-loop3 μ-loop3 Inv-loop μ-loop
 place-requires c κs = search needs
 
-mul-advance : tie.Need-mul-advance Inv-loop μ-loop
-mul-advance c = omega (arith, placed c)
+mul-facing : tie.Need-mul-facing Inv-loop2 μ-loop2 Inv-loop3 μ-loop3 Inv-loop μ-loop
+mul-facing c = omega (arith, placed c)
 
-array-copy-out-advance : tie.Need-array-copy-out-advance Inv-loop μ-loop
-array-copy-out-advance c = placed c
+mul-facing-2 : tie.Need-mul-facing-2 Inv-loop2 μ-loop2 Inv-loop3 μ-loop3 Inv-loop μ-loop
+mul-facing-2 c = omega (arith, placed (c .before))
 
-mul-advance-2 : tie.Need-mul-advance-2 Inv-loop μ-loop
-mul-advance-2 c = omega (arith, placed (c .before))
+array-read-facing : tie.Need-array-read-facing Inv-loop2 μ-loop2 Inv-loop3 μ-loop3 Inv-loop μ-loop
+array-read-facing c = placed (c .before)
 
-array-read-advance : tie.Need-array-read-advance Inv-loop μ-loop
-array-read-advance c = placed (c .before)
+facing-requires : tie.Need-facing-requires Inv-loop2 μ-loop2 Inv-loop3 μ-loop3 Inv-loop μ-loop
+facing-requires c κs = search needs
 
-advance-requires : tie.Need-advance-requires Inv-loop μ-loop
+loop2-holds : tie.Need-loop2-holds Inv-loop2 μ-loop2 Inv-loop3 μ-loop3 Inv-loop μ-loop
+loop2-holds c =
+    let f = c .before .before in
+    let v = f .before .before .before .before .before .before .loop in (
+      going-begins (f .before .before .before .before .decode .result) (sym (f .before .before .is-going .ensures) ∙ f .before .if1 .taken) (v .c) (v .slots) (v .snaps) (v .left) (v .right) (v .log)
+          (v .inv .sound) (f .place .ensures) (read-slot (v .slots) _ (v .inv .sound .slots) (placed f))
+          (c .facing .ensures),
+      f .place .ensures,
+    )
+
+mul-advance : tie.Need-mul-advance Inv-loop2 μ-loop2 Inv-loop3 μ-loop3 Inv-loop μ-loop
+mul-advance c = omega (arith, inside c)
+
+mul-advance-2 : tie.Need-mul-advance-2 Inv-loop2 μ-loop2 Inv-loop3 μ-loop3 Inv-loop μ-loop
+mul-advance-2 c = omega (arith, inside (c .before))
+
+advance-requires : tie.Need-advance-requires Inv-loop2 μ-loop2 Inv-loop3 μ-loop3 Inv-loop μ-loop
 advance-requires c κs = search needs
 
-number-requires : tie.Need-number-requires Inv-loop μ-loop
+mul-own : tie.Need-mul-own Inv-loop2 μ-loop2 Inv-loop3 μ-loop3 Inv-loop μ-loop
+mul-own c = omega (arith, inside (c .before .before .before .before .before .before .before .before .before .before .before .before))
+
+mul-slots : tie.Need-mul-slots Inv-loop2 μ-loop2 Inv-loop3 μ-loop3 Inv-loop μ-loop
+mul-slots c = omega (arith, inside (c .before .before .before .before .before .before .before .before .before .before .before .before .before))
+
+mul-snaps : tie.Need-mul-snaps Inv-loop2 μ-loop2 Inv-loop3 μ-loop3 Inv-loop μ-loop
+mul-snaps c = omega (arith, inside (c .before .before .before .before .before .before .before .before .before .before .before .before .before))
+
+array-write-snaps : tie.Need-array-write-snaps Inv-loop2 μ-loop2 Inv-loop3 μ-loop3 Inv-loop μ-loop
+array-write-snaps c = inside (c .before .before .before .before .before .before .before .before .before .before .before .before .before)
+
+place-requires-2 : tie.Need-place-requires-2 Inv-loop2 μ-loop2 Inv-loop3 μ-loop3 Inv-loop μ-loop
+place-requires-2 c κs = search needs
+
+mul-went-on : tie.Need-mul-went-on Inv-loop2 μ-loop2 Inv-loop3 μ-loop3 Inv-loop μ-loop
+mul-went-on c = omega (arith, placed-next c)
+
+mul-went-on-2 : tie.Need-mul-went-on-2 Inv-loop2 μ-loop2 Inv-loop3 μ-loop3 Inv-loop μ-loop
+mul-went-on-2 c = omega (arith, placed-next (c .before))
+
+went-on-requires : tie.Need-went-on-requires Inv-loop2 μ-loop2 Inv-loop3 μ-loop3 Inv-loop μ-loop
+unfolding slotCount
+went-on-requires c κs = omega (arith, going (c .before .before .before .before .before .before .before .before .before .before .before .before .before .before .before .before) .few)
+
+loop2-less : tie.Need-loop2-less Inv-loop2 μ-loop2 Inv-loop3 μ-loop3 Inv-loop μ-loop
+loop2-less c =
+    let b = c .before .before .before .before .before .before .before .before .before .before .before .before .before .before .before .before .before in
+    let v = b .before .loop2 .inv in
+    let x = c .before .before .before .before .before .before .before .before .before .before .before .before .advance .ensures in
+    let q = going-steps (going b) (v .0 .sound) (v .1) (own b _) x (c .before .before .place2 .ensures) (next-slot (going b) (v .0 .sound) (v .1) (own b _) x _ (placed-next (c .before .before))) (c .went-on .ensures) in
+    ahead-less (b .before .loop2 .far) (b .before .loop2 .c) (c .went-on .result) (c .before .before .before .before .before .before .before .before .before .before .before .before .advance .result .control) (b .loop2-test .taken) (q .1)
+
+loop2-again : tie.Need-loop2-again Inv-loop2 μ-loop2 Inv-loop3 μ-loop3 Inv-loop μ-loop
+loop2-again c =
+    let b = c .before .before .before .before .before .before .before .before .before .before .before .before .before .before .before .before .before in
+    let v = b .before .loop2 .inv in
+    let x = c .before .before .before .before .before .before .before .before .before .before .before .before .advance .ensures in
+    let q = going-steps (going b) (v .0 .sound) (v .1) (own b _) x (c .before .before .place2 .ensures) (next-slot (going b) (v .0 .sound) (v .1) (own b _) x _ (placed-next (c .before .before))) (c .went-on .ensures) in
+    (q .0, c .before .before .place2 .ensures)
+
+named-requires : tie.Need-named-requires Inv-loop2 μ-loop2 Inv-loop3 μ-loop3 Inv-loop μ-loop
+named-requires c κs = search needs
+
+loop3-holds : tie.Need-loop3-holds Inv-loop2 μ-loop2 Inv-loop3 μ-loop3 Inv-loop μ-loop
+loop3-holds c = ap (sought (c .before .before .before .before .decode .result) (c .before .before .before .before .before .before .loop .slots)) (c .named .ensures)
+
+within-requires : tie.Need-within-requires Inv-loop2 μ-loop2 Inv-loop3 μ-loop3 Inv-loop μ-loop
+within-requires c κs = search needs
+
+mul-passes : tie.Need-mul-passes Inv-loop2 μ-loop2 Inv-loop3 μ-loop3 Inv-loop μ-loop
+mul-passes c = omega (arith, c .within .ensures .1)
+
+passes-requires : tie.Need-passes-requires Inv-loop2 μ-loop2 Inv-loop3 μ-loop3 Inv-loop μ-loop
+passes-requires c κs = search needs
+
+add-i : tie.Need-add-i Inv-loop2 μ-loop2 Inv-loop3 μ-loop3 Inv-loop μ-loop
+add-i c = omega (arith, below c)
+
+loop3-less : tie.Need-loop3-less Inv-loop2 μ-loop2 Inv-loop3 μ-loop3 Inv-loop μ-loop
+loop3-less c = omega (arith, below c)
+
+loop3-again : tie.Need-loop3-again Inv-loop2 μ-loop2 Inv-loop3 μ-loop3 Inv-loop μ-loop
+loop3-again c =
+    let b = c .before .before .before in
+    let v = b .before .before .before .before .before .before .before .before .loop in
+    sym (sought-next (v .slots) (b .before .loop3 .i) (read-within (v .slots) (b .before .loop3 .i) _ (v .inv .sound .slots) (b .within .ensures)) (b .before .before .before .before .before .before .decode .result) (sym (c .before .passes .ensures) ∙ c .if2 .taken)) ∙ b .before .loop3 .inv
+
+within-requires-2 : tie.Need-within-requires-2 Inv-loop2 μ-loop2 Inv-loop3 μ-loop3 Inv-loop μ-loop
+within-requires-2 c κs = search needs
+
+mul-turn : tie.Need-mul-turn Inv-loop2 μ-loop2 Inv-loop3 μ-loop3 Inv-loop μ-loop
+mul-turn c = omega (arith, c .within2 .ensures .1)
+
+mul-turn-2 : tie.Need-mul-turn-2 Inv-loop2 μ-loop2 Inv-loop3 μ-loop3 Inv-loop μ-loop
+mul-turn-2 c = omega (arith, c .before .within2 .ensures .1)
+
+array-read-turn : tie.Need-array-read-turn Inv-loop2 μ-loop2 Inv-loop3 μ-loop3 Inv-loop μ-loop
+array-read-turn c = c .before .within2 .ensures .1
+
+turn-requires : tie.Need-turn-requires Inv-loop2 μ-loop2 Inv-loop3 μ-loop3 Inv-loop μ-loop
+turn-requires c κs = search needs
+
+mul-slots-2 : tie.Need-mul-slots-2 Inv-loop2 μ-loop2 Inv-loop3 μ-loop3 Inv-loop μ-loop
+mul-slots-2 c = omega (arith, c .before .before .before .before .before .before .before .before .before .before .before .before .within2 .ensures .1)
+
+mul-snaps-2 : tie.Need-mul-snaps-2 Inv-loop2 μ-loop2 Inv-loop3 μ-loop3 Inv-loop μ-loop
+mul-snaps-2 c = omega (arith, c .before .before .before .before .before .before .before .before .before .before .before .before .within2 .ensures .1)
+
+over-requires : tie.Need-over-requires Inv-loop2 μ-loop2 Inv-loop3 μ-loop3 Inv-loop μ-loop
+over-requires c κs = search needs
+
+number-requires : tie.Need-number-requires Inv-loop2 μ-loop2 Inv-loop3 μ-loop3 Inv-loop μ-loop
 number-requires c κs = search needs
 
-mul-put : tie.Need-mul-put Inv-loop μ-loop
-mul-put c = omega (arith, c .before .before .before .before .before .before .before .before .before .before .before .before .before .before .before .before .before .before .loop-test .taken, c .before .before .before .before .before .before .before .before .before .before .before .before .before .before .before .before .before .before .before .loop .inv .3)
+put-requires : tie.Need-put-requires Inv-loop2 μ-loop2 Inv-loop3 μ-loop3 Inv-loop μ-loop
+put-requires c κs = plays-room (c .before .before .before .before .before .before .before .loop .inv) (c .before .before .before .before .before .before .loop-test .taken)
 
-step-value-requires : tie.Need-step-value-requires Inv-loop μ-loop
-unfolding slotCount
-step-value-requires c κs = omega (arith, c .before .before .before .before .before .before .before .before .before .before .before .before .before .before .before .before .before .before .before .loop .inv .0 .few)
+add-from : tie.Need-add-from Inv-loop2 μ-loop2 Inv-loop3 μ-loop3 Inv-loop μ-loop
+add-from c = omega (arith, c .before .before .before .before .before .before .before .before .before .before .loop .inv .upto, c .before .before .before .before .before .before .before .before .before .loop-test .taken)
 
-put-requires : tie.Need-put-requires Inv-loop μ-loop
-put-requires c κs =
-    let b = c .before .before .before .before .before .before .before .before .before .before .before .before .before .before .before .before .before .before .before .before in
-    omega (arith, c .before .before .before .before .before .before .before .before .before .before .before .before .before .before .before .before .before .before .before .loop-test .taken, b .loop .inv .0 .sized, b .loop .inv .2)
+add-to : tie.Need-add-to Inv-loop2 μ-loop2 Inv-loop3 μ-loop3 Inv-loop μ-loop
+add-to c = omega (arith, plays-room (c .before .before .before .before .before .before .before .before .before .before .loop .inv) (c .before .before .before .before .before .before .before .before .before .loop-test .taken), c .before .before .before .before .before .before .before .before .before .before .before .before .before .before .before .before .before .before .before .good)
 
-add-i : tie.Need-add-i Inv-loop μ-loop
-add-i c = omega (arith, c .before .before .before .before .before .before .before .before .before .before .before .before .before .before .before .before .before .before .before .before .before .before .loop-test .taken, c .before .before .before .before .before .before .before .before .before .before .before .before .before .before .before .before .before .before .before .before .before .before .before .loop .inv .3)
+loop-less : tie.Need-loop-less Inv-loop2 μ-loop2 Inv-loop3 μ-loop3 Inv-loop μ-loop
+loop-less c = omega (arith, c .before .before .before .before .before .before .before .before .before .loop-test .taken)
 
-loop-again : tie.Need-loop-again Inv-loop μ-loop
-unfolding slotCount
+loop-again : tie.Need-loop-again Inv-loop2 μ-loop2 Inv-loop3 μ-loop3 Inv-loop μ-loop
 loop-again c =
-    let t = c .before .before .before .before .before .before .before .before .before .before .before .before .before in
-    let f = t .before .before .before .before .before in
-    let b = f .before .before .before .before .before in
-    let v = b .loop .inv in
-    let x = c .before .before .before .before .before .before .number .ensures in
-    let z : number (t .advance .result .answer) ≡ 13 = sym x ∙ c .before .before .before .before .before .if2 .taken in (
-      held-ends (v .0) (v .2) (f .before .before .before .before .loop-test .taken) (f .before .before .before .decode .ensures) (sym (f .before .before .is-step .ensures) ∙ f .before .if1 .taken) (f .place .ensures)
-          (getD-any (b .loop .slots) (f .place .result) _ noSlot (omega (arith, v .0 .sound .slots, placed f)))
-          (t .advance .ensures) z _
-          (c .before .before .put .ensures
-          ∙ (λ j.
-          take (9 * b .loop .i) (b .loop .out)
-          ++ (entryOf (sym z j) (c .before .before .before .step-value .ensures j) ++ drop (9 * b .loop .i + 9) (b .loop .out)))),
-      v .1,
-      v .2,
-      v .3,
-    )
+    let j = c .before .before .before .before .before in
+    let v = j .before .before .before .before .before .loop in
+    plays-next (v .inv) (j .before .before .before .before .loop-test .taken) (says j) _
+    (c .before .before .put .ensures
+    ∙ ap (λ (a : ℕ). take (v .to) (v .out) ++ (entryOf a (j .if1 .far .value) ++ drop (v .to + entryBytes) (v .out))) (c .before .before .before .number .ensures))
 
-loop-less : tie.Need-loop-less Inv-loop μ-loop
-unfolding slotCount
-loop-less c = omega (arith, loop-again c .0 .few, c .before .before .before .before .before .before .before .before .before .before .before .before .before .before .before .before .before .before .before .before .before .before .loop-test .taken)
+same-length : tie.Need-same-length Inv-loop2 μ-loop2 Inv-loop3 μ-loop3 Inv-loop μ-loop
+same-length c = c .before .loop .inv .sized
 
-mul-own : tie.Need-mul-own Inv-loop μ-loop
-mul-own c = omega (arith, placed (c .before .before .before .before .before .before .before .before .before .before .before .before .before .before))
+same-length-2 : tie.Need-same-length-2 Inv-loop2 μ-loop2 Inv-loop3 μ-loop3 Inv-loop μ-loop
+same-length-2 c = c .before .loop .inv .sound .good .words .left .sized ∙ sym (begins (c .before .before .before .before .before .before .before .before .before .before) .good .words .left .sized)
 
-array-copy-out-own : tie.Need-array-copy-out-own Inv-loop μ-loop
-array-copy-out-own c = placed (c .before .before .before .before .before .before .before .before .before .before .before .before .before .before)
+same-length-3 : tie.Need-same-length-3 Inv-loop2 μ-loop2 Inv-loop3 μ-loop3 Inv-loop μ-loop
+same-length-3 c = c .before .loop .inv .sound .good .words .right .sized ∙ sym (begins (c .before .before .before .before .before .before .before .before .before .before) .good .words .right .sized)
 
-mul-slots : tie.Need-mul-slots Inv-loop μ-loop
-mul-slots c = omega (arith, placed (c .before .before .before .before .before .before .before .before .before .before .before .before .before .before .before))
+same-length-4 : tie.Need-same-length-4 Inv-loop2 μ-loop2 Inv-loop3 μ-loop3 Inv-loop μ-loop
+same-length-4 c = c .before .loop .inv .sound .good .words .log ∙ sym (begins (c .before .before .before .before .before .before .before .before .before .before) .good .words .log)
 
-array-set-from-slots : tie.Need-array-set-from-slots Inv-loop μ-loop
-array-set-from-slots c = placed (c .before .before .before .before .before .before .before .before .before .before .before .before .before .before .before)
+returns : tie.Need-returns Inv-loop2 μ-loop2 Inv-loop3 μ-loop3 Inv-loop μ-loop
+returns c = (plays-reached (c .before .loop .inv) (c .loop-test .left), plays-end (c .before .loop .inv) (c .loop-test .left))
 
-mul-snaps : tie.Need-mul-snaps Inv-loop μ-loop
-mul-snaps c = omega (arith, placed (c .before .before .before .before .before .before .before .before .before .before .before .before .before .before .before))
+array-copy-out-facing : tie.Need-array-copy-out-facing Inv-loop2 μ-loop2 Inv-loop3 μ-loop3 Inv-loop μ-loop
+array-copy-out-facing c = placed c
 
-array-write-snaps : tie.Need-array-write-snaps Inv-loop μ-loop
-array-write-snaps c = placed (c .before .before .before .before .before .before .before .before .before .before .before .before .before .before .before)
+array-copy-out-advance : tie.Need-array-copy-out-advance Inv-loop2 μ-loop2 Inv-loop3 μ-loop3 Inv-loop μ-loop
+array-copy-out-advance c = inside c
 
-goes-on-requires : tie.Need-goes-on-requires Inv-loop μ-loop
-goes-on-requires c κs = search needs
+array-read-advance : tie.Need-array-read-advance Inv-loop2 μ-loop2 Inv-loop3 μ-loop3 Inv-loop μ-loop
+array-read-advance c = inside (c .before)
 
-add-n : tie.Need-add-n Inv-loop μ-loop
-unfolding slotCount
-add-n c = omega (arith, c .before .before .before .before .before .before .before .before .before .before .before .before .before .before .before .before .before .before .before .before .before .before .before .loop .inv .0 .few)
+array-copy-out-own : tie.Need-array-copy-out-own Inv-loop2 μ-loop2 Inv-loop3 μ-loop3 Inv-loop μ-loop
+array-copy-out-own c = inside (c .before .before .before .before .before .before .before .before .before .before .before .before)
 
-loop-less-2 : tie.Need-loop-less-2 Inv-loop μ-loop
-unfolding slotCount
-loop-less-2 c =
-    let t = c .before .before .before .before .before .before .before .before .before .before .before .before .before in
-    let f = t .before .before .before .before .before in
-    let b = f .before .before .before .before .before in
-    let v = b .loop .inv in
-    omega (
-      arith,
-      step-fewer (v .0) (v .2) (f .before .before .before .before .loop-test .taken) (f .before .before .before .decode .ensures) (sym (f .before .before .is-step .ensures) ∙ f .before .if1 .taken) (f .place .ensures)
-          (getD-any (b .loop .slots) (f .place .result) _ noSlot (omega (arith, v .0 .sound .slots, placed f)))
-          (t .advance .ensures) (sym (c .before .goes-on .ensures) ∙ c .if3 .taken),
-    )
+array-set-from-slots : tie.Need-array-set-from-slots Inv-loop2 μ-loop2 Inv-loop3 μ-loop3 Inv-loop μ-loop
+array-set-from-slots c = inside (c .before .before .before .before .before .before .before .before .before .before .before .before .before)
 
-loop-again-2 : tie.Need-loop-again-2 Inv-loop μ-loop
-unfolding slotCount
-loop-again-2 c =
-    let t = c .before .before .before .before .before .before .before .before .before .before .before .before .before in
-    let f = t .before .before .before .before .before in
-    let b = f .before .before .before .before .before in
-    let v = b .loop .inv in (
-      step-goes (v .0) (v .2) (f .before .before .before .before .loop-test .taken) (f .before .before .before .decode .ensures) (sym (f .before .before .is-step .ensures) ∙ f .before .if1 .taken) (f .place .ensures)
-          (getD-any (b .loop .slots) (f .place .result) _ noSlot (omega (arith, v .0 .sound .slots, placed f)))
-          (t .advance .ensures) (sym (c .before .goes-on .ensures) ∙ c .if3 .taken),
-      v .1,
-      v .2,
-      v .3,
-    )
+array-copy-out-went-on : tie.Need-array-copy-out-went-on Inv-loop2 μ-loop2 Inv-loop3 μ-loop3 Inv-loop μ-loop
+array-copy-out-went-on c = placed-next c
 
-mul-put-2 : tie.Need-mul-put-2 Inv-loop μ-loop
-mul-put-2 c = omega (arith, c .before .before .before .before .before .before .before .before .before .before .before .before .before .before .before .before .before .before .before .before .before .before .before .loop-test .taken, c .before .before .before .before .before .before .before .before .before .before .before .before .before .before .before .before .before .before .before .before .before .before .before .before .loop .inv .3)
+array-read-went-on : tie.Need-array-read-went-on Inv-loop2 μ-loop2 Inv-loop3 μ-loop3 Inv-loop μ-loop
+array-read-went-on c = placed-next (c .before)
 
-number-requires-2 : tie.Need-number-requires-2 Inv-loop μ-loop
-number-requires-2 c κs = search needs
+array-copy-out-passes : tie.Need-array-copy-out-passes Inv-loop2 μ-loop2 Inv-loop3 μ-loop3 Inv-loop μ-loop
+array-copy-out-passes c = c .within .ensures .1
 
-step-value-requires-2 : tie.Need-step-value-requires-2 Inv-loop μ-loop
-unfolding slotCount
-step-value-requires-2 c κs = omega (arith, c .before .before .before .before .before .before .before .before .before .before .before .before .before .before .before .before .before .before .before .before .before .before .before .before .before .loop .inv .0 .few)
+array-copy-out-turn : tie.Need-array-copy-out-turn Inv-loop2 μ-loop2 Inv-loop3 μ-loop3 Inv-loop μ-loop
+array-copy-out-turn c = c .within2 .ensures .1
 
-put-requires-2 : tie.Need-put-requires-2 Inv-loop μ-loop
-put-requires-2 c κs =
-    let b = c .before .before .before .before .before .before .before .before .before .before .before .before .before .before .before .before .before .before .before .before .before .before .before .before .before .before in
-    omega (arith, c .before .before .before .before .before .before .before .before .before .before .before .before .before .before .before .before .before .before .before .before .before .before .before .before .before .loop-test .taken, b .loop .inv .0 .sized, b .loop .inv .2)
+array-set-from-slots-2 : tie.Need-array-set-from-slots-2 Inv-loop2 μ-loop2 Inv-loop3 μ-loop3 Inv-loop μ-loop
+array-set-from-slots-2 c = c .before .before .before .before .before .before .before .before .before .before .before .before .within2 .ensures .1
 
-add-i-2 : tie.Need-add-i-2 Inv-loop μ-loop
-add-i-2 c = omega (arith, c .before .before .before .before .before .before .before .before .before .before .before .before .before .before .before .before .before .before .before .before .before .before .before .before .before .before .before .before .loop-test .taken, c .before .before .before .before .before .before .before .before .before .before .before .before .before .before .before .before .before .before .before .before .before .before .before .before .before .before .before .before .before .loop .inv .3)
-
-loop-again-3 : tie.Need-loop-again-3 Inv-loop μ-loop
-unfolding slotCount
-loop-again-3 c =
-    let t = c .before .before .before .before .before .before .before .before .before .before .before .before .before .before .before .before .before .before .before in
-    let f = t .before .before .before .before .before in
-    let b = f .before .before .before .before .before in
-    let v = b .loop .inv in (
-      step-ends (v .0) (v .2) (f .before .before .before .before .loop-test .taken) (f .before .before .before .decode .ensures) (sym (f .before .before .is-step .ensures) ∙ f .before .if1 .taken) (f .place .ensures)
-          (getD-any (b .loop .slots) (f .place .result) _ noSlot (omega (arith, v .0 .sound .slots, placed f)))
-          (t .advance .ensures) (sym (c .before .before .before .before .before .before .before .goes-on .ensures) ∙ c .before .before .before .before .before .before .if3 .left) _
-          (c .before .before .put2 .ensures
-          ∙ (λ j.
-          take (9 * b .loop .i) (b .loop .out)
-          ++ (entryOf (c .before .before .before .before .number2 .ensures j) (c .before .before .before .step-value2 .ensures j) ++ drop (9 * b .loop .i + 9) (b .loop .out)))),
-      v .1,
-      v .2,
-      v .3,
-    )
-
-loop-less-3 : tie.Need-loop-less-3 Inv-loop μ-loop
-unfolding slotCount
-loop-less-3 c = omega (arith, loop-again-3 c .0 .few, c .before .before .before .before .before .before .before .before .before .before .before .before .before .before .before .before .before .before .before .before .before .before .before .before .before .before .before .before .loop-test .taken)
-
-target-requires : tie.Need-target-requires Inv-loop μ-loop
-target-requires c κs = search needs
-
-absent-requires : tie.Need-absent-requires Inv-loop μ-loop
-absent-requires c κs = search needs
-
-mul-put-3 : tie.Need-mul-put-3 Inv-loop μ-loop
-mul-put-3 c = omega (arith, c .before .before .before .before .before .before .before .loop-test .taken, c .before .before .before .before .before .before .before .before .loop .inv .3)
-
-number-requires-3 : tie.Need-number-requires-3 Inv-loop μ-loop
-number-requires-3 c κs = search needs
-
-put-requires-3 : tie.Need-put-requires-3 Inv-loop μ-loop
-put-requires-3 c κs =
-    let b = c .before .before .before .before .before .before .before .before .before in
-    omega (arith, c .before .before .before .before .before .before .before .before .loop-test .taken, b .loop .inv .0 .sized, b .loop .inv .2)
-
-add-i-3 : tie.Need-add-i-3 Inv-loop μ-loop
-add-i-3 c = omega (arith, c .before .before .before .before .before .before .before .before .before .before .before .loop-test .taken, c .before .before .before .before .before .before .before .before .before .before .before .before .loop .inv .3)
-
-loop-again-4 : tie.Need-loop-again-4 Inv-loop μ-loop
-unfolding slotCount
-loop-again-4 c =
-    let f = c .before .before .before .before .before .before in
-    let b = f .before .before .before .before .before .before in
-    let v = b .loop .inv in (
-      absent-ends (v .0) (v .2) (f .before .before .before .before .before .loop-test .taken) (f .before .before .before .before .decode .ensures) (f .before .target .ensures) (f .if4 .taken)
-          (c .before .before .before .before .before .absent .ensures) _ (c .before .before .put3 .ensures
-          ∙ ap (λ (a : ℕ). take (9 * b .loop .i) (b .loop .out) ++ (entryOf a 0 ++ drop (9 * b .loop .i + 9) (b .loop .out))) (c .before .before .before .number3 .ensures)),
-      v .1,
-      v .2,
-      v .3,
-    )
-
-loop-less-4 : tie.Need-loop-less-4 Inv-loop μ-loop
-unfolding slotCount
-loop-less-4 c = omega (arith, loop-again-4 c .0 .few, c .before .before .before .before .before .before .before .before .before .before .before .loop-test .taken)
-
-mul-turn : tie.Need-mul-turn Inv-loop μ-loop
-mul-turn c = search needs
-
-array-copy-out-turn : tie.Need-array-copy-out-turn Inv-loop μ-loop
-array-copy-out-turn c = search needs
-
-mul-turn-2 : tie.Need-mul-turn-2 Inv-loop μ-loop
-mul-turn-2 c = search needs
-
-array-read-turn : tie.Need-array-read-turn Inv-loop μ-loop
-array-read-turn c = search needs
-
-turn-requires : tie.Need-turn-requires Inv-loop μ-loop
-unfolding slotCount
-turn-requires c κs = omega (arith, c .before .before .before .before .before .before .before .before .before .before .loop .inv .0 .few)
-
-mul-slots-2 : tie.Need-mul-slots-2 Inv-loop μ-loop
-mul-slots-2 c = search needs
-
-array-set-from-slots-2 : tie.Need-array-set-from-slots-2 Inv-loop μ-loop
-array-set-from-slots-2 c = search needs
-
-mul-snaps-2 : tie.Need-mul-snaps-2 Inv-loop μ-loop
-mul-snaps-2 c = search needs
-
-array-write-snaps-2 : tie.Need-array-write-snaps-2 Inv-loop μ-loop
-array-write-snaps-2 c = search needs
-
-loop-less-5 : tie.Need-loop-less-5 Inv-loop μ-loop
-unfolding slotCount
-loop-less-5 c =
-    let t = c .before .before .before .before .before .before .before .before .before in
-    let f = t .before .before .before .before .before in
-    let b = f .before .before .before .before .before .before in
-    let v = b .loop .inv in
-    omega (
-      arith,
-      turn-fewer (v .0) (v .2) (f .before .before .before .before .before .loop-test .taken) (f .before .before .before .before .decode .ensures) (f .before .target .ensures)
-          (getD-any (b .loop .slots) (f .before .target .result) _ noSlot (omega (arith, v .0 .sound .slots, f .if4 .left))) (t .turn .ensures)
-          (f .if4 .left) (c .if5 .taken),
-    )
-
-loop-again-5 : tie.Need-loop-again-5 Inv-loop μ-loop
-unfolding slotCount
-loop-again-5 c =
-    let t = c .before .before .before .before .before .before .before .before .before in
-    let f = t .before .before .before .before .before in
-    let b = f .before .before .before .before .before .before in
-    let v = b .loop .inv in (
-      turn-goes (v .0) (v .2) (f .before .before .before .before .before .loop-test .taken) (f .before .before .before .before .decode .ensures) (f .before .target .ensures)
-          (getD-any (b .loop .slots) (f .before .target .result) _ noSlot (omega (arith, v .0 .sound .slots, f .if4 .left))) (t .turn .ensures)
-          (f .if4 .left) (c .if5 .taken),
-      v .1,
-      v .2,
-      v .3,
-    )
-
-mul-put-4 : tie.Need-mul-put-4 Inv-loop μ-loop
-mul-put-4 c = omega (arith, c .before .before .before .before .before .before .before .before .before .before .before .before .before .before .before .before .before .before .before .before .loop-test .taken, c .before .before .before .before .before .before .before .before .before .before .before .before .before .before .before .before .before .before .before .before .before .loop .inv .3)
-
-number-requires-4 : tie.Need-number-requires-4 Inv-loop μ-loop
-number-requires-4 c κs = search needs
-
-put-requires-4 : tie.Need-put-requires-4 Inv-loop μ-loop
-put-requires-4 c κs =
-    let b = c .before .before .before .before .before .before .before .before .before .before .before .before .before .before .before .before .before .before .before .before .before .before in
-    omega (arith, c .before .before .before .before .before .before .before .before .before .before .before .before .before .before .before .before .before .before .before .before .before .loop-test .taken, b .loop .inv .0 .sized, b .loop .inv .2)
-
-add-i-4 : tie.Need-add-i-4 Inv-loop μ-loop
-add-i-4 c = omega (arith, c .before .before .before .before .before .before .before .before .before .before .before .before .before .before .before .before .before .before .before .before .before .before .before .before .loop-test .taken, c .before .before .before .before .before .before .before .before .before .before .before .before .before .before .before .before .before .before .before .before .before .before .before .before .before .loop .inv .3)
-
-loop-again-6 : tie.Need-loop-again-6 Inv-loop μ-loop
-unfolding slotCount
-loop-again-6 c =
-    let t = c .before .before .before .before .before .before .before .before .before .before .before .before .before .before in
-    let f = t .before .before .before .before .before in
-    let b = f .before .before .before .before .before .before in
-    let v = b .loop .inv in (
-      turn-ends (v .0) (v .2) (f .before .before .before .before .before .loop-test .taken) (f .before .before .before .before .decode .ensures) (f .before .target .ensures)
-          (getD-any (b .loop .slots) (f .before .target .result) _ noSlot (omega (arith, v .0 .sound .slots, f .if4 .left))) (t .turn .ensures)
-          (f .if4 .left) (sym (f .before .before .before .is-step .ensures) ∙ f .before .before .if1 .left) (c .before .before .before .before .before .if5 .left) _
-          (c .before .before .put4 .ensures
-          ∙ ap (λ (a : ℕ). take (9 * b .loop .i) (b .loop .out) ++ (entryOf a (t .turn .result .value) ++ drop (9 * b .loop .i + 9) (b .loop .out))) (c .before .before .before .number4 .ensures)),
-      v .1,
-      v .2,
-      v .3,
-    )
-
-loop-less-6 : tie.Need-loop-less-6 Inv-loop μ-loop
-unfolding slotCount
-loop-less-6 c = omega (arith, loop-again-6 c .0 .few, c .before .before .before .before .before .before .before .before .before .before .before .before .before .before .before .before .before .before .before .before .before .before .before .before .loop-test .taken)
-
-same-length : tie.Need-same-length Inv-loop μ-loop
-same-length c = c .before .loop .inv .0 .sized
-
-same-length-2 : tie.Need-same-length-2 Inv-loop μ-loop
-same-length-2 c = c .before .loop .inv .0 .sound .good .words .left .sized ∙ sym (entry (c .before .before) .pre .2)
-
-same-length-3 : tie.Need-same-length-3 Inv-loop μ-loop
-same-length-3 c = c .before .loop .inv .0 .sound .good .words .right .sized ∙ sym (entry (c .before .before) .pre .3)
-
-same-length-4 : tie.Need-same-length-4 Inv-loop μ-loop
-same-length-4 c = c .before .loop .inv .0 .sound .good .words .log ∙ sym (entry (c .before .before) .pre .4)
-
-returns : tie.Need-returns Inv-loop μ-loop
-returns c = plays-end (c .before .loop .inv .0) (c .before .loop .inv .2) (c .loop-test .left)
+array-write-snaps-2 : tie.Need-array-write-snaps-2 Inv-loop2 μ-loop2 Inv-loop3 μ-loop3 Inv-loop μ-loop
+array-write-snaps-2 c = c .before .before .before .before .before .before .before .before .before .before .before .before .within2 .ensures .1
 
 pub play-on-spec : {M : Type 1} → statement M
 play-on-spec =
     tie.close
     (tie.spec
+    Inv-loop2
+    μ-loop2
+    Inv-loop3
+    μ-loop3
     Inv-loop
     μ-loop
-    start-requires
     loop-holds
+    sub-loop
     decode-requires
-    is-step-requires
+    none-requires
+    is-going-requires
     place-requires
+    mul-facing
+    array-copy-out-facing
+    mul-facing-2
+    array-read-facing
+    facing-requires
+    loop2-holds
     mul-advance
     array-copy-out-advance
     mul-advance-2
     array-read-advance
     advance-requires
-    number-requires
-    mul-put
-    step-value-requires
-    put-requires
-    add-i
-    loop-less
-    loop-again
     mul-own
     array-copy-out-own
     mul-slots
     array-set-from-slots
     mul-snaps
     array-write-snaps
-    goes-on-requires
-    add-n
-    loop-less-2
-    loop-again-2
-    mul-put-2
-    number-requires-2
-    step-value-requires-2
-    put-requires-2
-    add-i-2
-    loop-less-3
-    loop-again-3
-    target-requires
-    absent-requires
-    mul-put-3
-    number-requires-3
-    put-requires-3
-    add-i-3
-    loop-less-4
-    loop-again-4
+    place-requires-2
+    mul-went-on
+    array-copy-out-went-on
+    mul-went-on-2
+    array-read-went-on
+    went-on-requires
+    loop2-less
+    loop2-again
+    named-requires
+    loop3-holds
+    within-requires
+    mul-passes
+    array-copy-out-passes
+    passes-requires
+    add-i
+    loop3-less
+    loop3-again
+    within-requires-2
     mul-turn
     array-copy-out-turn
     mul-turn-2
@@ -412,14 +389,13 @@ play-on-spec =
     array-set-from-slots-2
     mul-snaps-2
     array-write-snaps-2
-    loop-less-5
-    loop-again-5
-    mul-put-4
-    number-requires-4
-    put-requires-4
-    add-i-4
-    loop-less-6
-    loop-again-6
+    over-requires
+    number-requires
+    put-requires
+    add-from
+    add-to
+    loop-less
+    loop-again
     same-length
     same-length-2
     same-length-3

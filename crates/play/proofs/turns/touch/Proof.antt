@@ -1,20 +1,34 @@
--- What the call on the handle gives.
+-- What the call on the handle gives, where there is such a slot.
+use mathlib.Core.Path.{sym, ap, _∙_}
+use borrow.Author.Tests.{le-leb, lt-leb}
+use Rattle.read.specs.declared.Made.{Made}
+use Rattle.read.specs.Machine.{slotTotal}
+use Rattle.play.specs.Turns.{movedAs, touched}
 use borrow.Author.Needs.{needs}
-use mathlib.Core.Path.{ap, _∙_}
-use Rattle.play.specs.Turns.{touched}
 use Rattle.play.proofs.turns.touch.Statement.{statement}
 use Rattle.play.proofs.turns.touch.Tie as tie
+
+moved-as-requires : tie.Need-moved-as-requires
+moved-as-requires c κs = search needs
+
+returns : tie.Need-returns
+returns c =
+    let a = c .before .before .before .before .args in
+    c .moved-as .ensures ∙ sym (rw (le-leb slotTotal (a .i) (c .before .if1 .taken), touched))
 
 handle-requires : tie.Need-handle-requires
 handle-requires c κs = search needs
 
-turn-of-requires : tie.Need-turn-of-requires
-turn-of-requires c κs = search needs
+moved-as-requires-2 : tie.Need-moved-as-requires-2
+moved-as-requires-2 c κs = search needs
 
-returns : tie.Need-returns
-returns c =
-    let a = c .before .before .before .before .before .args in
-    c .turn-of .ensures ∙ ap (touched (a .c) (a .e)) (c .before .before .handle .ensures)
+returns-2 : tie.Need-returns-2
+returns-2 c =
+    let a = c .before .before .before .before .before .before .args in
+    c .moved-as2 .ensures
+    ∙ ap (λ (m : Made). movedAs (m .answer) (m .value) (a .c) (m .slot) (a .e)) (c .before .before .handle .ensures)
+    ∙ sym (rw (lt-leb slotTotal (a .i) (c .before .before .before .if1 .left), touched))
 
 pub touch-spec : {M : Type 1} → statement M
-touch-spec = tie.close (tie.spec handle-requires turn-of-requires returns)
+touch-spec =
+    tie.close (tie.spec moved-as-requires returns handle-requires moved-as-requires-2 returns-2)

@@ -1,15 +1,14 @@
--- Each result is the rule's at the call that the match found.
+-- The rule's case at the call that the match found.
+use mathlib.Core.Path.{sym, ap, _∙_}
+use borrow.Author.Tests.{lt-ltb, le-ltb}
+use Rattle.read.specs.Machine.{slotTotal}
+use Rattle.play.specs.Turns.{passes}
 use borrow.Author.Needs.{needs}
-use mathlib.Core.Path.{sym, _∙_}
-use Rattle.play.specs.Turns.{absent}
-use Rattle.play.proofs.turns.absent.Statement.{statement}
-use Rattle.play.proofs.turns.absent.Tie as tie
+use Rattle.play.proofs.turns.passes.Statement.{statement}
+use Rattle.play.proofs.turns.passes.Tie as tie
 
 enum-told : tie.Need-enum-told
 enum-told c = search needs
-
-waits-requires : tie.Need-waits-requires
-waits-requires c κs = search needs
 
 enum-told-2 : tie.Need-enum-told-2
 enum-told-2 c = search needs
@@ -28,13 +27,13 @@ enum-told-6 c = search needs
 
 returns : tie.Need-returns
 returns c =
-    let a = c .before .before .before .before .args in
-    rw (c .before .before .enum-told .given .1, sym (c .before .waits .ensures) ∙ c .if1 .taken, absent)
+    let a = c .before .before .before .args in
+    rw (c .before .enum-told .given .1, lt-ltb (a .i) slotTotal (c .if1 .taken), passes)
 
 returns-2 : tie.Need-returns-2
 returns-2 c =
-    let a = c .before .before .before .before .args in
-    rw (c .before .before .enum-told .given .1, sym (c .before .waits .ensures) ∙ c .if1 .left, absent)
+    let a = c .before .before .before .args in
+    rw (c .before .enum-told .given .1, le-ltb (a .i) slotTotal (c .if1 .left), passes)
 
 returns-3 : tie.Need-returns-3
 returns-3 c = search needs
@@ -51,12 +50,11 @@ returns-6 c = search needs
 returns-7 : tie.Need-returns-7
 returns-7 c = search needs
 
-pub absent-spec : {M : Type 1} → statement M
-absent-spec =
+pub passes-spec : {M : Type 1} → statement M
+passes-spec =
     tie.close
     (tie.spec
     enum-told
-    waits-requires
     enum-told-2
     enum-told-3
     enum-told-4

@@ -1,0 +1,67 @@
+-- How long a transcript is, and what a fresh machine is known to be.
+use Prim.Native.Nat.{ℕ, zero, suc, _+_, _*_, _/_}
+use mathlib.Core.Path.{_≡_, refl, sym, ap, subst, _∙_}
+use mathlib.Core.List.{List, [], _∷_, _++_}
+use native.Mathlib.Omega.{arith}
+use borrow.Author.Tests.{eq-eqb}
+use lib.ListN.{length, drop, replicate, length-drop}
+use Rattle.table.specs.Copy.{words}
+use Rattle.table.specs.declared.Answer.the-variants as answer
+use Rattle.read.specs.declared.Reply.{Reply}
+use Rattle.read.specs.declared.Verdict.the-variants.{Admitted}
+use Rattle.read.specs.Machine.{logWords, fresh, judged}
+use Rattle.read.specs.Calls.{Lent, lent, startRule}
+use Rattle.write.specs.declared.Call.{Call}
+use Rattle.write.specs.World.{World, Machine, freshWorld, worldOf, reply, played}
+use Rattle.write.specs.Machine.{callRule}
+use Rattle.write.proofs.NeverBroken.{sound-fresh, sound-judged}
+use Rattle.play.specs.declared.Reached.{Reached}
+use Rattle.play.specs.Schedule.{recordBytes, count, callsFrom, callsIn, callsOf}
+use Rattle.play.specs.Player.{entryBytes, entriesOf, transcript, reached}
+
+calls-length : (s : List ℕ) (at n : ℕ) → length (callsFrom s at n) ≡ n
+calls-length s at zero = refl
+calls-length s at (suc n) = ap suc (calls-length s (at + recordBytes) n)
+
+played-length : (m : Machine) (ks : List Call) (w : World) → length (entriesOf (played m ks w .replies)) ≡ entryBytes * length ks
+unfolding played entriesOf
+played-length m [] w = refl
+played-length m (k ∷ ks) w = let h = played-length m ks (worldOf (reply m k w)) in omega (arith, h)
+
+pub file-length : (s : List ℕ) (w : World) → length (transcript (callsOf s) w) ≡ entryBytes * count s
+file-length s w =
+    played-length callRule (callsOf s) w
+    ∙ ap (λ (n : ℕ). entryBytes * n) (calls-length (drop 5 s) 0 (length (drop 5 s) / recordBytes) ∙ ap (λ (n : ℕ). n / recordBytes) (length-drop 5 s))
+
+-- the same of the part behind the head, b
+module _ (s : List ℕ) {b : List ℕ} (p : b ≡ drop 5 s) where
+  pub part-length : (w : World) → length (transcript (callsIn b) w) ≡ entryBytes * count s
+  part-length w = ap (λ (b : List ℕ). length (transcript (callsIn b) w)) p ∙ file-length s w
+
+  pub part-written : (w : World) {r : Lent Reached} → r ≡ reached b w → r .made .written ≡ entryBytes * count s
+  part-written w {r} e =
+      let x : _≡_ {A = ℕ} (r .made .written) (length (transcript (callsIn b) w)) = ap (λ (r : Lent Reached). r .made .written) e in
+      x ∙ part-length w
+
+  pub part-bytes :
+      (out : List ℕ) {w : World} → w ≡ freshWorld →
+      (let t = transcript (callsIn b) w in t ++ drop (length t) out) ≡ transcript (callsOf s) freshWorld ++ drop (entryBytes * count s) out
+  part-bytes out e =
+      (λ i. (let t = transcript (callsIn (p i)) (e i) in t ++ drop (length t) out))
+      ∙ ap (λ (n : ℕ). transcript (callsOf s) freshWorld ++ drop n out) (file-length s freshWorld)
+
+-- start on words of the right lengths
+module _ (l r g : List ℕ) (x : length l ≡ words) (y : length r ≡ words) (z : length g ≡ logWords) where
+  start-fresh :
+      startRule l r g
+      ≡ lent (record { answer = answer.Done; value = 0; state = fresh }) (replicate words 0) (replicate words 0) (replicate logWords 0)
+  unfolding startRule
+  start-fresh =
+      rw (eq-eqb (length l) words x, eq-eqb (length r) words y, eq-eqb (length g) logWords z, startRule) (rw (x, y, z))
+
+  pub started-fresh : {o : Lent Reply} → o ≡ startRule l r g → worldOf o ≡ freshWorld
+  started-fresh e = ap worldOf (e ∙ start-fresh)
+
+  pub started-whole : {o : Lent Reply} → o ≡ startRule l r g → judged (o .made .state .control) (o .left) (o .right) (o .log) ≡ Admitted
+  started-whole e =
+      subst (λ (w : World). judged (w .state .control) (w .left) (w .right) (w .log) ≡ Admitted) (sym (started-fresh e)) (sound-judged sound-fresh)

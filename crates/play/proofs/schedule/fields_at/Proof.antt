@@ -1,0 +1,77 @@
+-- Field by field, each read by the law of its width.
+use Prim.Native.Nat.{_+_}
+use mathlib.Core.Path.{_≡_, _∙_}
+use lib.ListN.{getD}
+use borrow.Author.Needs.{needs}
+use Rattle.play.proofs.Numbers.{number-one}
+use Rattle.play.proofs.schedule.fields_at.Statement.{statement}
+use Rattle.play.proofs.schedule.fields_at.Tie as tie
+
+byte-requires : tie.Need-byte-requires
+byte-requires c κs = search needs
+
+add-byte : tie.Need-add-byte
+add-byte c = search needs
+
+byte-requires-2 : tie.Need-byte-requires-2
+byte-requires-2 c κs = search needs
+
+add-byte-2 : tie.Need-add-byte-2
+add-byte-2 c = search needs
+
+byte-requires-3 : tie.Need-byte-requires-3
+byte-requires-3 c κs = search needs
+
+add-byte-3 : tie.Need-add-byte-3
+add-byte-3 c = search needs
+
+byte-requires-4 : tie.Need-byte-requires-4
+byte-requires-4 c κs = search needs
+
+add-eight : tie.Need-add-eight
+add-eight c = search needs
+
+eight-requires : tie.Need-eight-requires
+eight-requires c κs = search needs
+
+add-eight-2 : tie.Need-add-eight-2
+add-eight-2 c = search needs
+
+eight-requires-2 : tie.Need-eight-requires-2
+eight-requires-2 c κs = search needs
+
+returns : tie.Need-returns
+returns c =
+    let b = c .before .before .before .before .before in
+    let a = b .before .before .args in
+    let s = a .s .now in
+    let call : b .byte .result ≡ getD s (a .at) 0 = b .byte .ensures .0 ∙ number-one s (a .at) in
+    let slot : c .before .before .before .before .byte2 .result ≡ getD s (a .at + 1) 0 = c .before .before .before .before .byte2 .ensures .0 ∙ number-one s (a .at + 1) in
+    let guard : c .before .before .before .byte3 .result ≡ getD s (a .at + 2) 0 = c .before .before .before .byte3 .ensures .0 ∙ number-one s (a .at + 2) in
+    let kind : c .before .before .byte4 .result ≡ getD s (a .at + 3) 0 = c .before .before .byte4 .ensures .0 ∙ number-one s (a .at + 3) in
+    λ j.
+    record {
+      call = call j;
+      slot = slot j;
+      guard = guard j;
+      kind = kind j;
+      key = c .before .eight .ensures j;
+      amount = c .eight2 .ensures j;
+    }
+
+pub fields-at-spec : {M : Type 1} → statement M
+fields-at-spec =
+    tie.close
+    (tie.spec
+    byte-requires
+    add-byte
+    byte-requires-2
+    add-byte-2
+    byte-requires-3
+    add-byte-3
+    byte-requires-4
+    add-eight
+    eight-requires
+    add-eight-2
+    eight-requires-2
+    returns)
