@@ -1,6 +1,12 @@
--- What the contracts of the program's text say.
+-- What the contracts of the program's text say. The two sizes are those of the constants `page::SIZE` and `RECORDS`.
 use Prim.Native.Nat.{ℕ, _≤_}
 
--- a place of a page of 65,536 bytes, or its end
+abbrev pub pageBytes : ℕ
+pageBytes = 65536
+
+abbrev pub mostRecords : ℕ
+mostRecords = 100000
+
+-- a place of a page, or its end
 abbrev pub OnPage : ℕ → Type 0
-OnPage n = n ≤ 65536
+OnPage n = n ≤ pageBytes

@@ -6,18 +6,33 @@
 // FILE is a packed schedule, or - for standard input. A program has no exit status here, so where NAME is given, which
 // is what messages then call the file, a digit goes to descriptor 3: 0 well, 1 the file is refused, 2 anything else.
 mod page;
+mod rows;
 mod show;
 
+use crate::rows::row;
 use libc::STDERR_FILENO;
 use libc::STDIN_FILENO;
 use libc::STDOUT_FILENO;
 
-// 100,000 records, and one byte more to see that a file has no more.
-const MOST: usize = 2000005;
+// The bytes of a schedule before its first record, of a record, and of its entry in the transcript.
+const HEAD: usize = 5;
 
-const SCHEDULE: usize = 2000006;
+const RECORD: usize = 20;
 
-const TRANSCRIPT: usize = 900000;
+const ENTRY: usize = 9;
+
+// So many records a schedule may have.
+const RECORDS: usize = 100000;
+
+const MOST: usize = HEAD + RECORDS * RECORD;
+
+// One byte more, to see that a file has no more.
+const SCHEDULE: usize = MOST + 1;
+
+const TRANSCRIPT: usize = RECORDS * ENTRY;
+
+// The smallest number that refuses a file.
+const MARK: u64 = 21;
 
 const WELL: u8 = b'0';
 
@@ -37,9 +52,10 @@ fn say(text: &[u8]) {
 }
 
 // What went wrong with a file, by errno.
-fn fail(name: &[u8]) {
+fn fail(name: &[u8]) -> u8 {
     say(b"lrt: ");
     os::fail(name);
+    FAILED
 }
 
 // The first `n` bytes, or all where there are fewer.
@@ -54,14 +70,15 @@ fn start(s: &[u8], n: usize) -> &[u8] {
 fn read_all(fd: i32, buf: &mut [u8]) -> Got {
     let mut n = 0;
     while n < buf.len() {
-        let got = libc::read(fd, &mut buf[n..]);
+        let rest = &mut buf[n..];
+        let got = libc::read(fd, rest);
         if got < 0 {
             return Got {
                 whole: false,
                 count: n,
             };
         }
-        let more = io::count(got, &buf[n..]);
+        let more = io::count(got, rest);
         if more == 0 {
             break;
         }
@@ -73,15 +90,12 @@ fn read_all(fd: i32, buf: &mut [u8]) -> Got {
     }
 }
 
-// What refuses a file. The output is never too short, since it has room for every record that the schedule has.
+// What refuses a file, by its number from 21 on, and where. The output is never too short, since it has room for every record
+// that the schedule has.
 fn reason(answer: u64) {
-    match answer {
-        21 => say(b"mark (a schedule begins with LRT and a version)"),
-        22 => say(b"version (only 1 is known)"),
-        23 => say(b"torn record (a record has 20 bytes)"),
-        24 => say(b"a call not 1 to 14"),
-        _ => say(b"output too short"),
-    }
+    let rows =
+        b", mark (a schedule begins with LRT and a version), before record |, version (only 1 is known), before record |, torn record (a record has 20 bytes), at record |, a call not 1 to 14, at record |, output too short, at record ";
+    say(row(rows, std::num::wrapping_sub_u64(answer, MARK)));
 }
 
 // The line for a file that is refused. Records count from 1; a mark or a version is wrong before the first.
@@ -90,15 +104,16 @@ fn refuse(name: &[u8], answer: u64, place: usize) {
     say(name);
     say(b": refused with ");
     io::print_decimal(STDERR_FILENO, answer);
-    say(b", ");
     reason(answer);
-    if answer < 23 {
-        say(b", before record ");
-    } else {
-        say(b", at record ");
-    }
     io::print_decimal(STDERR_FILENO, std::num::wrapping_add_u64(place as u64, 1));
     say(b"\n");
+}
+
+fn too_long(name: &[u8]) -> u8 {
+    say(b"lrt: ");
+    say(name);
+    say(b": over 100,000 records, which is all that this program holds\n");
+    FAILED
 }
 
 fn write(schedule: &[u8], transcript: &[u8], is_show: bool) -> bool {
@@ -108,7 +123,20 @@ fn write(schedule: &[u8], transcript: &[u8], is_show: bool) -> bool {
     io::write_all(STDOUT_FILENO, transcript)
 }
 
-fn run(
+fn run(schedule: &[u8], out: &mut [u8], name: &[u8], is_show: bool) -> u8 {
+    let played = play::lrt_play(schedule, out);
+    if played.answer != 0 {
+        let flaw = play::schedule::check(schedule);
+        refuse(name, played.answer, flaw.place);
+        return REFUSED;
+    }
+    if write(schedule, start(out, played.written), is_show) {
+        return WELL;
+    }
+    fail(b"standard output")
+}
+
+fn read_and_run(
     buf: &mut [u8; SCHEDULE],
     out: &mut [u8; TRANSCRIPT],
     name: &[u8],
@@ -117,48 +145,41 @@ fn run(
 ) -> u8 {
     let got = read_all(fd, buf);
     if !got.whole {
-        fail(name);
-        return FAILED;
+        return fail(name);
     }
     if got.count > MOST {
-        say(b"lrt: ");
-        say(name);
-        say(b": over 100,000 records, which is all that this program holds\n");
-        return FAILED;
+        return too_long(name);
     }
-    let schedule = start(buf, got.count);
-    let played = play::lrt_play(schedule, out);
-    if played.answer != 0 {
-        let flaw = play::schedule::check(schedule);
-        refuse(name, played.answer, flaw.place);
-        return REFUSED;
-    }
-    let transcript = start(out, played.written);
-    if write(schedule, transcript, is_show) {
-        return WELL;
-    }
-    fail(b"standard output");
-    FAILED
+    run(start(buf, got.count), out, name, is_show)
 }
 
-fn open_and_run(name: &[u8], is_show: bool) -> u8 {
+// Opens FILE. What is wrong with it is said, and answered with a negative number.
+fn open(name: &[u8]) -> i32 {
     let mut path = io::buffer();
     let n = os::arg(2, &mut path);
     if os::errno() != 0 {
         fail(b"FILE");
-        return FAILED;
+        return -1;
     }
-    let mut fd = STDIN_FILENO;
-    if !check::same(&path[..n], b"-") {
-        fd = os::open_read(&path[..n]);
+    let path = start(&path, n);
+    if check::same(path, b"-") {
+        return STDIN_FILENO;
     }
+    let fd = os::open_read(path);
     if fd < 0 {
         fail(name);
+    }
+    fd
+}
+
+fn open_and_run(name: &[u8], is_show: bool) -> u8 {
+    let fd = open(name);
+    if fd < 0 {
         return FAILED;
     }
     let mut buf = [0u8; SCHEDULE];
     let mut out = [0u8; TRANSCRIPT];
-    let status = run(&mut buf, &mut out, name, fd, is_show);
+    let status = read_and_run(&mut buf, &mut out, name, fd, is_show);
     libc::close(fd);
     status
 }
@@ -177,14 +198,15 @@ fn named(is_show: bool) -> u8 {
 fn by_word() -> u8 {
     let mut word = [0u8; 4];
     let n = os::arg(1, &mut word);
-    if check::same(&word[..n], b"play") {
-        return named(false);
+    let word = start(&word, n);
+    let is_show = check::same(word, b"show");
+    if !is_show {
+        if !check::same(word, b"play") {
+            say(b"lrt: wanted: play FILE, or show FILE\n");
+            return FAILED;
+        }
     }
-    if check::same(&word[..n], b"show") {
-        return named(true);
-    }
-    say(b"lrt: wanted: play FILE, or show FILE\n");
-    FAILED
+    named(is_show)
 }
 
 fn main() {

@@ -1,54 +1,64 @@
 // Text that is gathered in a page from its start on. What does not fit is left out.
 ghost use Rattle.lrt.specs.Page.{OnPage};
 
-pub const SIZE: usize = 65536;
+pub(crate) const SIZE: usize = 65536;
 
-pub fn put(page: &mut [u8; SIZE], at: usize, text: &[u8]) -> usize
+// As many digits as the longest number of 64 bits has.
+const DIGITS: usize = 20;
+
+pub(crate) fn put(page: &mut [u8; SIZE], at: usize, byte: u8) -> usize
     ensures { λ r. ⌜ OnPage r ⌝ }
 {
-    let mut n = at;
-    let mut i = 0;
-    while i < text.len() {
-        if n >= SIZE {
-            return SIZE;
-        }
-        page[n] = text[i];
-        n += 1;
-        i += 1;
+    if at < SIZE {
+        page[at] = byte;
+        return at + 1;
     }
-    if n > SIZE {
-        return SIZE;
-    }
-    n
+    SIZE
 }
 
 // Blanks up to a column.
-pub fn blanks(page: &mut [u8; SIZE], at: usize, column: usize) -> usize
+pub(crate) fn blanks(page: &mut [u8; SIZE], at: usize, column: usize) -> usize
+    requires { ⌜ OnPage at ⌝ }
     ensures { λ r. ⌜ OnPage r ⌝ }
 {
     let mut n = at;
     while n < column {
         if n >= SIZE {
-            return SIZE;
+            return n;
         }
         page[n] = b' ';
         n += 1;
     }
-    if n > SIZE {
-        return SIZE;
+    n
+}
+
+pub(crate) fn text(page: &mut [u8; SIZE], at: usize, s: &[u8]) -> usize
+    requires { ⌜ OnPage at ⌝ }
+    ensures { λ r. ⌜ OnPage r ⌝ }
+{
+    let mut n = at;
+    let mut i = 0;
+    while i < s.len() {
+        n = put(page, n, s[i]);
+        i += 1;
     }
     n
 }
 
+fn minus(a: usize, b: usize) -> usize {
+    if a > b {
+        return a - b;
+    }
+    0
+}
+
 // A number that ends at a column, or as soon after it as its digits allow.
-pub fn number(page: &mut [u8; SIZE], at: usize, n: u64, column: usize) -> usize
+pub(crate) fn number(page: &mut [u8; SIZE], at: usize, value: u64, column: usize) -> usize
+    requires { ⌜ OnPage at ⌝ }
     ensures { λ r. ⌜ OnPage r ⌝ }
 {
-    let mut digits = [0u8; 20];
-    let k = io::decimal(n, &mut digits);
-    if k < column {
-        let to = blanks(page, at, column - k);
-        return put(page, to, &digits[..k]);
-    }
-    put(page, at, &digits[..k])
+    let mut digits = [0u8; DIGITS];
+    let k = io::decimal(value, &mut digits);
+    let n = blanks(page, at, minus(column, k));
+    text(page, n, &digits[..k])
 }

@@ -1,18 +1,47 @@
 // A schedule's records and what came of them, one to a line.
+use crate::ENTRY;
+use crate::HEAD;
+use crate::RECORD;
+use crate::RECORDS;
 use crate::page::SIZE;
 use crate::page::blanks;
 use crate::page::number;
 use crate::page::put;
+use crate::page::text;
+use crate::rows::row;
 use crate::start;
-ghost use Prim.Native.Nat.{_≤_};
 ghost use Rattle.lrt.specs.Page.{OnPage};
 
-// The widths of a line's columns: the record's number, the call, the answer.
-const NUMBER: usize = 6;
+// The bytes of a record at which its fields start.
+const CALL: usize = 0;
 
-const CALL: usize = 34;
+const SLOT: usize = 1;
 
-const ANSWER: usize = 14;
+const GUARD: usize = 2;
+
+const KIND: usize = 3;
+
+const KEY: usize = 4;
+
+const AMOUNT: usize = 12;
+
+// An entry has the answer, then the value.
+const ANSWER: usize = 0;
+
+const VALUE: usize = 1;
+
+// A gap between two columns of a line.
+const GAP: usize = 2;
+
+// The widths of the columns: the record's number; the call; the answer's number, with the gap before it; the answer's number and name,
+// with the gaps on both sides.
+const NUMBER_WIDE: usize = 6;
+
+const CALL_WIDE: usize = 34;
+
+const ANSWER_NUMBER_WIDE: usize = GAP + 2;
+
+const ANSWER_WIDE: usize = GAP + 14 + GAP;
 
 // More than any line has.
 const LONGEST: usize = 512;
@@ -29,114 +58,89 @@ fn byte(s: &[u8], at: usize) -> u64 {
     0
 }
 
-// The number in eight bytes, the lowest first.
-fn eight(s: &[u8], at: usize) -> u64
-    requires { ⌜ at ≤ 12 ⌝ }
-{
+// The bytes from `at` on, or none.
+fn rest(s: &[u8], at: usize) -> &[u8] {
+    if at < s.len() {
+        return &s[at..];
+    }
+    &s[..0]
+}
+
+// The number in the first eight bytes, the lowest first.
+fn eight(s: &[u8]) -> u64 {
     let mut v: u64 = 0;
     let mut i = 8;
     while i > 0 {
         i -= 1;
-        v = (v << 8) | byte(s, at + i);
+        v = (v << 8) | byte(s, i);
     }
     v
 }
 
-// A field's name and its number.
-fn field(page: &mut [u8; SIZE], at: usize, name: &[u8], value: u64) -> usize
-    ensures { λ r. ⌜ OnPage r ⌝ }
-{
-    let n = put(page, at, name);
-    number(page, n, value, 0)
-}
-
+// An operation's kind: its name, or its number where it has none.
 fn kind(page: &mut [u8; SIZE], at: usize, k: u64) -> usize
+    requires { ⌜ OnPage at ⌝ }
     ensures { λ r. ⌜ OnPage r ⌝ }
 {
+    let n = text(page, at, row(b"kind |add|drop|clear|kind ", k));
     match k {
-        1 => put(page, at, b" add"),
-        2 => put(page, at, b" drop"),
-        3 => put(page, at, b" clear"),
-        _ => field(page, at, b" kind ", k),
+        1..=3 => n,
+        _ => number(page, n, k, 0),
     }
 }
 
-// The call's name alone.
-fn name(page: &mut [u8; SIZE], at: usize, call: u64) -> usize
+// One letter of a call's row. A capital stands for a field: S slot, G guard, O the operation's kind, K key, A amount.
+fn letter(page: &mut [u8; SIZE], at: usize, b: u8, record: &[u8]) -> usize
+    requires { ⌜ OnPage at ⌝ }
     ensures { λ r. ⌜ OnPage r ⌝ }
 {
-    match call {
-        1 => put(page, at, b"create"),
-        2 => put(page, at, b"drop"),
-        3 => put(page, at, b"enter"),
-        4 => put(page, at, b"go-on"),
-        5 => put(page, at, b"release"),
-        6 => put(page, at, b"look-up"),
-        7 => put(page, at, b"was-dropped"),
-        8 => put(page, at, b"append"),
-        9 => put(page, at, b"publish"),
-        10 => put(page, at, b"try"),
-        11 => put(page, at, b"flush"),
-        12 => put(page, at, b"take"),
-        13 => put(page, at, b"step"),
-        14 => put(page, at, b"run"),
-        _ => put(page, at, b"?"),
-    }
+    let value = match b {
+        b'S' => byte(record, SLOT),
+        b'G' => byte(record, GUARD),
+        b'O' => {
+            return kind(page, at, byte(record, KIND));
+        }
+        b'K' => eight(rest(record, KEY)),
+        b'A' => eight(rest(record, AMOUNT)),
+        _ => {
+            return put(page, at, b);
+        }
+    };
+    number(page, at, value, 0)
 }
 
-// The call with the fields that it uses.
+// A call's row, with the record's fields in their places.
+fn fill(page: &mut [u8; SIZE], at: usize, row: &[u8], record: &[u8]) -> usize
+    requires { ⌜ OnPage at ⌝ }
+    ensures { λ r. ⌜ OnPage r ⌝ }
+{
+    let mut n = at;
+    let mut i = 0;
+    while i < row.len() {
+        n = letter(page, n, row[i], record);
+        i += 1;
+    }
+    n
+}
+
+// The call with the fields that it uses: a row for each, by its number.
 fn call(page: &mut [u8; SIZE], at: usize, record: &[u8]) -> usize
+    requires { ⌜ OnPage at ⌝ }
     ensures { λ r. ⌜ OnPage r ⌝ }
 {
-    let c = byte(record, 0);
-    let n = name(page, at, c);
-    if c == 8 {
-        let n = kind(page, n, byte(record, 3));
-        let n = field(page, n, b" key ", eight(record, 4));
-        return field(page, n, b" amount ", eight(record, 12));
-    }
-    if c < 2 {
-        return n;
-    }
-    if c > 7 {
-        return n;
-    }
-    let n = field(page, n, b" slot ", byte(record, 1));
-    if c < 5 {
-        return n;
-    }
-    if c > 6 {
-        return n;
-    }
-    let n = field(page, n, b" guard ", byte(record, 2));
-    if c == 5 {
-        return n;
-    }
-    field(page, n, b" key ", eight(record, 4))
+    let calls =
+        b"?|create|drop slot S|enter slot S|go-on slot S|release slot S guard G|look-up slot S guard G key K|was-dropped slot S|append O key K amount A|publish|try|flush|take|step|run|?";
+    fill(page, at, row(calls, byte(record, CALL)), record)
 }
 
+// The answer's name, by its number.
 fn meaning(page: &mut [u8; SIZE], at: usize, answer: u64) -> usize
+    requires { ⌜ OnPage at ⌝ }
     ensures { λ r. ⌜ OnPage r ⌝ }
 {
-    match answer {
-        0 => put(page, at, b" done"),
-        1 => put(page, at, b" length"),
-        2 => put(page, at, b" broken"),
-        3 => put(page, at, b" gone"),
-        4 => put(page, at, b" no slot"),
-        5 => put(page, at, b" operation"),
-        6 => put(page, at, b" not now"),
-        7 => put(page, at, b" locked"),
-        8 => put(page, at, b" guards open"),
-        9 => put(page, at, b" no guard"),
-        10 => put(page, at, b" four guards"),
-        11 => put(page, at, b" log full"),
-        12 => put(page, at, b" slots full"),
-        13 => put(page, at, b" held"),
-        14 => put(page, at, b" declined"),
-        15 => put(page, at, b" none"),
-        _ => put(page, at, b" ?"),
-    }
+    let answers =
+        b" done| length| broken| gone| no slot| operation| not now| locked| guards open| no guard| four guards| log full| slots full| held| declined| none| ?";
+    text(page, at, row(answers, answer))
 }
 
 // A record, by its number, with its entry of the transcript.
@@ -144,17 +148,16 @@ fn line(page: &mut [u8; SIZE], at: usize, i: u64, record: &[u8], entry: &[u8]) -
     requires { ⌜ OnPage at ⌝ }
     ensures { λ r. ⌜ OnPage r ⌝ }
 {
-    let n = number(page, at, i, at + NUMBER);
-    let n = put(page, n, b"  ");
-    let called = call(page, n, record);
-    let n = blanks(page, called, n + CALL);
-    let n = put(page, n, b"  ");
-    let answer = byte(entry, 0);
-    let to = number(page, n, answer, n + 2);
+    let n = number(page, at, i, at + NUMBER_WIDE);
+    let n = blanks(page, n, n + GAP);
+    let to = call(page, n, record);
+    let n = blanks(page, to, n + CALL_WIDE);
+    let answer = byte(entry, ANSWER);
+    let to = number(page, n, answer, n + ANSWER_NUMBER_WIDE);
     let to = meaning(page, to, answer);
-    let n = blanks(page, to, n + ANSWER);
-    let n = field(page, n, b"  ", eight(entry, 1));
-    put(page, n, b"\n")
+    let n = blanks(page, to, n + ANSWER_WIDE);
+    let n = number(page, n, eight(rest(entry, VALUE)), 0);
+    put(page, n, b'\n')
 }
 
 fn write(fd: i32, page: &[u8; SIZE], n: usize) -> bool {
@@ -166,22 +169,20 @@ pub(crate) fn all(fd: i32, schedule: &[u8], transcript: &[u8]) -> bool {
     let mut page = [0u8; SIZE];
     let mut n = 0;
     let mut i = 0;
-    let mut at = 5;
-    let mut entry = 0;
-    while at < schedule.len() {
-        if entry >= transcript.len() {
+    while i < RECORDS {
+        let entry = rest(transcript, i * ENTRY);
+        if entry.len() == 0 {
             break;
         }
+        let record = rest(schedule, HEAD + i * RECORD);
         i += 1;
-        n = line(&mut page, n, i, &schedule[at..], &transcript[entry..]);
+        n = line(&mut page, n, i as u64, record, entry);
         if n > SIZE - LONGEST {
             if !write(fd, &page, n) {
                 return false;
             }
             n = 0;
         }
-        at += 20;
-        entry += 9;
     }
     write(fd, &page, n)
 }

@@ -4,7 +4,7 @@ use mathlib.Core.Path.{_≡_, refl, sym, ap, subst, _∙_}
 use mathlib.Core.Bool.{Bool, true, false, not, _||_, true≢false}
 use mathlib.Core.List.{List}
 use native.Mathlib.Omega.{arith}
-use borrow.Author.Tests.{eq-eqb, ne-eqb, eqb-true, eqb-false}
+use borrow.Author.Tests.{eqb-true, eqb-false}
 use lib.Dec.{eqb}
 use lib.ListN.{getD, set}
 use Rattle.table.specs.Answers.{number}
@@ -21,28 +21,29 @@ use Rattle.read.specs.declared.State.{State}
 use Rattle.read.specs.declared.Reply.{Reply}
 use Rattle.read.specs.declared.Verdict.{Verdict}
 use Rattle.read.specs.declared.Verdict.the-variants.{Admitted, Refused}
-use Rattle.read.specs.Machine.{slotTotal, noSlot, underway, isGone}
+use Rattle.read.specs.Machine.{slotTotal, noSlot, underway, isGone, place}
 use Rattle.read.specs.Admission.{entry, notNow}
-use Rattle.read.specs.Handles.{bit, given, smallest}
-use Rattle.read.specs.Calls.{Lent, lent, slotAt, refusal}
+use Rattle.read.specs.Handles.{bit, smallest}
+use Rattle.read.specs.Calls.{Lent, lent, refusal}
 use Rattle.write.specs.declared.Moved.{Moved}
 use Rattle.write.specs.declared.Call.{Call}
 use Rattle.write.specs.declared.Call.the-variants.{Create, On, Append, Open, Step, Run}
 use Rattle.write.specs.Numbers.{isStep, isRun}
-use Rattle.write.specs.Steps.{holds, refused, moved, stopped, pollMove, lastPollMove, stepAt, place, at, polling, lastPolling}
+use Rattle.write.specs.Steps.{holds, refused, moved, stopped, pollMove, lastPollMove, stepAt, at, polling}
 use Rattle.write.specs.Begins.{stepSigns}
-use Rattle.write.specs.Runs.{snapAt, lift, stepOn, left, goOn, runOn}
+use Rattle.write.specs.Runs.{lift, stepOn, afterStep, runOn}
 use Rattle.write.specs.Machine.{going, callOn}
 use Rattle.write.specs.World.{answerOf, valueOf, worldOf}
-use Rattle.write.proofs.Control.{Whole}
 use Rattle.write.proofs.Left.{step-value, step-lowers, left-small}
-use Rattle.write.proofs.RunLaws.{stateOf}
 use Rattle.write.proofs.NeverBroken.{Sound, sound-step}
 use Rattle.play.specs.declared.turns.Far.{Far}
 use Rattle.play.specs.Player.{machine}
-use Rattle.play.specs.Turns.{waiting, halt, haltOf, far, facing, over, ranOn, wentOn}
+use Rattle.play.specs.Turns.{halt, haltOf, far, facing, wentOn}
 use Rattle.play.proofs.Run.{runFrom, run-starts, run-over, run-unrolls}
 use Rattle.play.proofs.Turned.{read-slot, unput}
+use Rattle.read.proofs.Cases.{stateOf}
+use Rattle.read.proofs.Verdicts.{given}
+use Rattle.write.proofs.Count.{left}
 
 -- ---- what halts a step
 
@@ -249,14 +250,14 @@ module _ (n : ℕ) (c : Control) (ss : List Slot) (es l r g : List ℕ) (h : Sou
   -- what a run makes of a step that is refused
   run-halted :
       (a : Answer) (m : ℕ) → number a ≡ suc m →
-      goOn (runFrom (n + 1)) n (lent (refusal a st) l r g) ≡ lent (record { answer = a; value = n; state = st }) l r g
-  run-halted a m z = rw (z, goOn)
+      afterStep (runFrom (n + 1)) n (lent (refusal a st) l r g) ≡ lent (record { answer = a; value = n; state = st }) l r g
+  run-halted a m z = rw (z, afterStep)
 
   due-halted :
       (run : Bool) → (run ≡ false → n ≡ 0) → underway (c .phase) ≡ true → (number halts ≡ 0 → ⊥) →
       due run n st l r g ≡ lent (record { answer = halts; value = n; state = st }) l r g
   due-halted true y u z =
-      run-unrolls st l r g n (h .good .whole) u ∙ ap (goOn (runFrom (n + 1)) n) (step-halted z)
+      run-unrolls st l r g n (h .good .whole) u ∙ ap (afterStep (runFrom (n + 1)) n) (step-halted z)
       ∙ run-halted halts (number halts - 1) (omega arith)
   due-halted false y u z =
       step-halted z ∙ ap (λ (v : ℕ). lent (record { answer = halts; value = v; state = st }) l r g) (sym (y refl))
@@ -391,16 +392,16 @@ module _ {o : Lent Reply} {run : Bool} {n : ℕ} {c : Control} {ss : List Slot} 
         split (underway (m .control .phase)) (λ u. absurd (z (tells ∙ ap (λ (b : Bool). bit (not b)) u))) (λ u. u)
 
     module _ (y : run ≡ true) where
-      unrolled : o ≡ goOn (runFrom (n + 1)) n (lent (record { answer = m .answer; value = m .value; state = to }) l' r' g')
+      unrolled : o ≡ afterStep (runFrom (n + 1)) n (lent (record { answer = m .answer; value = m .value; state = to }) l' r' g')
       unrolled =
           v .same ∙ ap (λ (b : Bool). due b n (stateOf c ss es) l r g) y
-          ∙ run-unrolls (stateOf c ss es) l r g n (h .good .whole) (v .busy) ∙ ap (goOn (runFrom (n + 1)) n) stepped
+          ∙ run-unrolls (stateOf c ss es) l r g n (h .good .whole) (v .busy) ∙ ap (afterStep (runFrom (n + 1)) n) stepped
 
       run-made : number (m .answer) ≡ 0 → o ≡ runFrom (n + 1) to l' r' g'
-      run-made z = unrolled ∙ rw (z, goOn)
+      run-made z = unrolled ∙ rw (z, afterStep)
 
       run-stopped : (a : ℕ) → number (m .answer) ≡ suc a → o ≡ lent (record { answer = m .answer; value = n; state = to }) l' r' g'
-      run-stopped a z = unrolled ∙ rw (z, goOn)
+      run-stopped a z = unrolled ∙ rw (z, afterStep)
 
     abbrev next : Answer
     next = haltOf (m .control) (hereSlot (m .control) (to .slots)) (hereSnap (m .control) (to .snapshots))

@@ -1,6 +1,6 @@
 -- The player's loop: before a turn, what stands in the output, and that the records still to come give the rest of what is to be
 -- written, and the machine that is to be reached.
-use Prim.Native.Nat.{ℕ, zero, suc, _+_, _-_, _*_, _/_, _≤_, _<_}
+use Prim.Native.Nat.{ℕ, suc, _+_, _-_, _*_, _/_, _≤_, _<_}
 use mathlib.Core.Path.{_≡_, refl, sym, ap, subst, _∙_}
 use mathlib.Core.Bool.{false, _||_}
 use mathlib.Core.List.{List, [], _++_, append-assoc, append-nil}
@@ -22,15 +22,15 @@ use Rattle.write.specs.Runs.{lift}
 use Rattle.write.specs.Machine.{callOn, callRule}
 use Rattle.write.specs.World.{World, worldOf, answerOf, valueOf, Played, answering, played}
 use Rattle.write.proofs.Judged.{judged-good}
-use Rattle.write.proofs.RunLaws.{stateOf}
 use Rattle.write.proofs.NeverBroken.{Sound, call-made, sound-call}
 use Rattle.play.specs.declared.turns.Far.{Far}
 use Rattle.play.specs.declared.Reached.{Reached}
 use Rattle.play.specs.Schedule.{recordBytes, decoded, callsFrom, callsIn}
-use Rattle.play.specs.Player.{entryBytes, entryOf, entriesOf, transcript, machine, reached}
+use Rattle.play.specs.Player.{entryBytes, entryOf, entriesOf, transcript, machine}
 use Rattle.play.specs.Turns.{within, turnOn, over}
 use Rattle.play.proofs.Turned.{sought, turn-made}
 use Rattle.play.proofs.Going.{Said, said}
+use Rattle.read.proofs.Cases.{stateOf}
 
 -- a call that takes one turn: what its move says, slot and snapshot being put back
 pub turn-said :

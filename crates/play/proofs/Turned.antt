@@ -1,10 +1,10 @@
 -- A call that takes one turn: where its search for a slot ends, and that its move, put back, is what the machine gives.
-use Prim.Native.Nat.{ℕ, _+_, _-_, _≤_, _<_}
+use Prim.Native.Nat.{ℕ, _+_, _-_, _<_}
 use mathlib.Core.Path.{_≡_, refl, sym, ap, _∙_}
 use mathlib.Core.Bool.{Bool, true, false, not, _||_, true≢false}
 use mathlib.Core.List.{List}
 use native.Mathlib.Omega.{arith}
-use borrow.Author.Tests.{lt-ltb, le-ltb, lt-leb, le-leb, ltb-true, ltb-false, leb-true, leb-false}
+use borrow.Author.Tests.{lt-ltb, lt-leb, ltb-true, ltb-false, leb-true, leb-false}
 use lib.Dec.{eqb, ltb, leb}
 use lib.ListN.{length, getD, set}
 use lib.Seq.{set-getD}
@@ -19,11 +19,11 @@ use Rattle.read.specs.declared.Slot.{Slot}
 use Rattle.read.specs.declared.State.{State}
 use Rattle.read.specs.declared.Reply.{Reply}
 use Rattle.read.specs.declared.Verdict.{Verdict}
-use Rattle.read.specs.declared.Verdict.the-variants.{Admitted, Refused}
+use Rattle.read.specs.declared.Verdict.the-variants.{Admitted}
 use Rattle.read.proofs.Cases.{reply-past, reply-in, create-refused, create-made}
 use Rattle.read.specs.Machine.{slotTotal, slotCount, noSlot, newSlot}
-use Rattle.read.specs.Handles.{given, smallest, handleOn}
-use Rattle.read.specs.Calls.{Lent, lent, slotAt, refusal, createSigns, createReply, handleReply}
+use Rattle.read.specs.Handles.{smallest, handleOn}
+use Rattle.read.specs.Calls.{Lent, lent, slotAt, refusal, createReply, handleReply}
 use Rattle.write.specs.declared.Call.{Call}
 use Rattle.write.specs.declared.Call.the-variants.{Create, On, Append, Open, Step, Run}
 use Rattle.write.specs.declared.Moved.{Moved}
@@ -32,7 +32,8 @@ use Rattle.write.specs.Steps.{refused}
 use Rattle.write.specs.Runs.{snapAt, lift}
 use Rattle.write.specs.Machine.{callOn}
 use Rattle.write.proofs.RunLaws.{getD-any}
-use Rattle.play.specs.Turns.{within, passes, waits, movedAs, created, touched, turnOn}
+use Rattle.play.specs.Turns.{within, passes, waits, movedAs, turnOn}
+use Rattle.read.proofs.Verdicts.{given}
 
 -- ---- the search
 

@@ -16,7 +16,7 @@ use Rattle.read.proofs.Tests.{and-left, and-right}
 pub refused-not : {a : Answer} {C : Type 0} → Refused a ≡ Admitted → C
 refused-not e = let z : _≡_ {A = ℕ} 0 1 = cc in absurd (omega arith)
 
-abbrev given : Bool → Answer → Verdict → Verdict
+abbrev pub given : Bool → Answer → Verdict → Verdict
 given b a v = elim b [ true ↦ Refused a | false ↦ v ]
 
 -- ---- admitted: none applies

@@ -105,6 +105,29 @@ pub run-unbounded :
 run-unbounded k n st l r g w b =
     run-counted k n st l r g w b ∙ sym (run-counted enough n st l r g w (omega (arith, left-small (st .control) w)))
 
+-- where none is under way nothing is made
+pub run-out : (k n : ℕ) (st : State) (l r g : List ℕ) → underway (st .control .phase) ≡ false → runWhile stepOn k n st l r g ≡ ranOut n st l r g
+unfolding runWhile
+run-out zero n st l r g u = refl
+run-out (suc k) n st l r g u =
+    ap (λ (b : Bool). elim b [ true ↦ afterStep (runWhile stepOn k (n + 1)) n (stepOn st l r g) | false ↦ ranOut n st l r g ]) u
+
+-- where one is, a step is made, and the rest follows
+pub run-unrolled :
+    (n : ℕ) (st : State) (l r g : List ℕ) → Whole (st .control) → underway (st .control .phase) ≡ true →
+    runWhile stepOn enough n st l r g ≡ afterStep (runWhile stepOn enough (n + 1)) n (stepOn st l r g)
+unfolding runWhile stepOn
+run-unrolled n st l r g w u =
+    let c = st .control in
+    let i = place (c .phase) in
+    let o = stepOn st l r g in
+    sym (run-unbounded (suc (left c)) n st l r g w (omega arith))
+    ∙ ap (λ (b : Bool). elim b [ true ↦ afterStep (runWhile stepOn (left c) (n + 1)) n o | false ↦ ranOut n st l r g ]) u
+    ∙ after-same n (runWhile stepOn (left c) (n + 1)) (runWhile stepOn enough (n + 1)) o
+    (λ z.
+    let f = step-lowers c (slotAt st i) (snapAt st i) w l r g z in
+    run-unbounded (left c) (n + 1) (o .made .state) (o .left) (o .right) (o .log) (whole-step c w (slotAt st i) (snapAt st i) l r g) (omega arith))
+
 pub run-steps : (st : State) (l r g : List ℕ) → Whole (st .control) → runOn st l r g ≡ steps (left (st .control)) 0 st l r g
 unfolding runOn
 run-steps st l r g w = run-counted enough 0 st l r g w (omega (arith, left-small (st .control) w))

@@ -2,31 +2,28 @@
 -- on its way (`Going`), and before a slot that a create may pass its search ends where it would from the first. Each way through the
 -- body is one law.
 use Prim.Native.Nat.{ℕ, _+_, _-_, _<_}
-use mathlib.Core.Path.{_≡_, refl, sym, ap, subst, _∙_}
-use mathlib.Core.Bool.{true}
+use mathlib.Core.Path.{_≡_, sym, ap, subst, _∙_}
 use mathlib.Core.List.{_++_}
 use mathlib.Core.Logic.{⊎-elim}
 use native.Mathlib.Omega.{arith}
 use borrow.Author.Needs.{needs}
 use lib.ListN.{length, getD, take, drop, length-map}
 use Rattle.read.specs.declared.Slot.{Slot}
-use Rattle.read.specs.Machine.{slotTotal, slotCount, noSlot}
+use Rattle.read.specs.Machine.{slotTotal, slotCount, noSlot, place}
 use Rattle.write.specs.declared.Call.{Call}
 use Rattle.write.specs.Numbers.{isRun, slotOf}
-use Rattle.write.specs.Steps.{place}
 use Rattle.write.specs.Machine.{callOn, callRule}
 use Rattle.write.specs.World.{played}
-use Rattle.write.proofs.RunLaws.{stateOf}
 use Rattle.write.proofs.NeverBroken.{Sound}
 use Rattle.write.proofs.Turns.{place-below}
 use Rattle.play.specs.Schedule.{decoded, callsIn}
 use Rattle.play.specs.Player.{entryBytes, entryOf, transcript, machine}
-use Rattle.play.specs.Turns.{within}
 use Rattle.play.proofs.Turned.{sought, passes-below, sought-next, sought-here, read-slot, read-within}
 use Rattle.play.proofs.Going.{Said, Goes, Going, going-begins, going-steps, sound-after, next-slot, said-as, ahead, ahead-less}
 use Rattle.play.proofs.Plays.{Plays, plays-start, plays-room, plays-next, plays-end, plays-reached, sound-judged, turn-said}
 use Rattle.play.proofs.play_on.Statement.{statement}
 use Rattle.play.proofs.play_on.Tie as tie
+use Rattle.read.proofs.Cases.{stateOf}
 
 abbrev Inv-loop2 : tie.InvT-loop2
 Inv-loop2 s out left₀ right₀ log₀ c₀ slots₀ snaps₀ from to call far₀ k₀ left right log c slots snaps far k =

@@ -1,11 +1,12 @@
 -- `page::blanks` is safe, ends, and stays within the page: the column comes closer at each turn.
 use Prim.Native.Nat.{_-_}
 use borrow.Author.Needs.{needs}
+use Rattle.lrt.specs.Page.{OnPage}
 use Rattle.lrt.proofs.page.blanks.Statement.{statement}
 use Rattle.lrt.proofs.page.blanks.Tie as tie
 
 abbrev Inv-loop : tie.InvT-loop
-Inv-loop page₀ at column n₀ page n = Unit {0}
+Inv-loop page₀ at column n₀ page n = OnPage n
 
 abbrev μ-loop : tie.MeasureT-loop
 μ-loop page₀ at column n₀ page n = column - n
@@ -31,9 +32,6 @@ loop-again c = search needs
 returns-2 : tie.Need-returns-2 Inv-loop μ-loop
 returns-2 c = search needs
 
-returns-3 : tie.Need-returns-3 Inv-loop μ-loop
-returns-3 c = search needs
-
 pub blanks-spec : {M : Type 1} → statement M
 blanks-spec =
     tie.close
@@ -46,5 +44,4 @@ blanks-spec =
     add-n
     loop-less
     loop-again
-    returns-2
-    returns-3)
+    returns-2)

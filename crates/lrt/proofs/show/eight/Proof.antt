@@ -1,23 +1,20 @@
--- `show::eight` is safe and ends: `at` is at most 12, and `i` falls from 8.
+-- `show::eight` is safe and ends: `i` falls from 8.
 use Prim.Native.Nat.{_≤_}
 use borrow.Author.Needs.{needs}
 use Rattle.lrt.proofs.show.eight.Statement.{statement}
 use Rattle.lrt.proofs.show.eight.Tie as tie
 
 abbrev Inv-loop : tie.InvT-loop
-Inv-loop s at v₀ i₀ v i = i ≤ 8
+Inv-loop s v₀ i₀ v i = i ≤ 8
 
 abbrev μ-loop : tie.MeasureT-loop
-μ-loop s at v₀ i₀ v i = i
+μ-loop s v₀ i₀ v i = i
 
 loop-holds : tie.Need-loop-holds Inv-loop μ-loop
 loop-holds c = search needs
 
 sub-i : tie.Need-sub-i Inv-loop μ-loop
 sub-i c = search needs
-
-add-byte : tie.Need-add-byte Inv-loop μ-loop
-add-byte c = search needs
 
 byte-requires : tie.Need-byte-requires Inv-loop μ-loop
 byte-requires c κs = search needs
@@ -34,4 +31,4 @@ returns c = search needs
 pub eight-spec : {M : Type 1} → statement M
 eight-spec =
     tie.close
-    (tie.spec Inv-loop μ-loop loop-holds sub-i add-byte byte-requires loop-less loop-again returns)
+    (tie.spec Inv-loop μ-loop loop-holds sub-i byte-requires loop-less loop-again returns)
