@@ -1,13 +1,11 @@
 -- The schedule file: a mark, a version, and records of 20 bytes, each a call.
 use Prim.Native.Nat.{ℕ, zero, suc, _+_, _-_, _*_, _/_, _%_}
-use mathlib.Core.Bool.{Bool, true, false, not, _&&_}
+use mathlib.Core.Bool.{Bool, not, _&&_}
 use mathlib.Core.List.{List, [], _∷_}
 use lib.ListN.{length, getD, drop}
-use lib.Dec.{eqb, ltb, leb}
+use lib.Dec.{eqb, leb}
 use Rattle.table.specs.Seek.{seek}
-use Rattle.read.specs.declared.Handle.{Handle}
 use Rattle.read.specs.declared.Handle.the-variants.{Drop, Enter, GoOn, Release, LookUp, WasDropped}
-use Rattle.write.specs.declared.Opening.{Opening}
 use Rattle.write.specs.declared.Opening.the-variants.{Publish, Try, Flush, Take}
 use Rattle.write.specs.declared.Call.{Call}
 use Rattle.write.specs.declared.Call.the-variants.{Create, On, Append, Open, Step, Run}
@@ -74,45 +72,21 @@ fieldsAt s at =
       amount = numberAt 8 s (at + 12);
     }
 
-abbrev pub handleOf : ℕ → ℕ → ℕ → Handle
-handleOf call guard key =
-    elim (eqb call 2) [
-      | true ↦ Drop
-      | false ↦
-          elim (eqb call 3) [
-            | true ↦ Enter
-            | false ↦
-                elim (eqb call 4) [
-                  | true ↦ GoOn
-                  | false ↦
-                      elim (eqb call 5)
-                      [ true ↦ Release guard | false ↦ elim (eqb call 6) [ true ↦ LookUp guard key | false ↦ WasDropped ] ]
-                ]
-          ]
-    ]
+-- what the fields mean, by the call's number from 1 on; the last is run
+abbrev pub callsBy : Fields → List Call
+callsBy f =
+    Create
+    ∷ On (f .slot) Drop
+    ∷ On (f .slot) Enter
+    ∷ On (f .slot) GoOn
+    ∷ On (f .slot) (Release (f .guard))
+    ∷ On (f .slot) (LookUp (f .guard) (f .key))
+    ∷ On (f .slot) WasDropped
+    ∷ Append (f .kind) (f .key) (f .amount)
+    ∷ Open Publish ∷ Open Try ∷ Open Flush ∷ Open Take ∷ Step ∷ []
 
-abbrev pub openingOf : ℕ → Opening
-openingOf call =
-    elim (eqb call 9)
-    [ true ↦ Publish | false ↦ elim (eqb call 10) [ true ↦ Try | false ↦ elim (eqb call 11) [ true ↦ Flush | false ↦ Take ] ] ]
-
--- what the fields mean, by the call's number: 1 create, 2 to 7 a handle's, 8 append, 9 to 12 the writer's, 13 step, 14 run
 abbrev pub callOf : Fields → Call
-callOf f =
-    elim (eqb (f .call) 1) [
-      | true ↦ Create
-      | false ↦
-          elim (ltb (f .call) 8) [
-            | true ↦ On (f .slot) (handleOf (f .call) (f .guard) (f .key))
-            | false ↦
-                elim (eqb (f .call) 8) [
-                  | true ↦ Append (f .kind) (f .key) (f .amount)
-                  | false ↦
-                      elim (ltb (f .call) 13)
-                      [ true ↦ Open (openingOf (f .call)) | false ↦ elim (eqb (f .call) 13) [ true ↦ Step | false ↦ Run ] ]
-                ]
-          ]
-    ]
+callOf f = getD (callsBy f) (f .call - 1) Run
 
 unfoldable pub decoded : List ℕ → ℕ → Call
 decoded s at = callOf (fieldsAt s at)

@@ -6,7 +6,7 @@ use write::Opening;
 ghost use mathlib.Core.Path.{_≡_};
 ghost use Prim.Native.Nat.{_+_, _*_, _^_, _≤_, _<_};
 ghost use lib.ListN.{length, getD};
-ghost use Rattle.play.specs.Schedule.{numberAt, count as countRule, startOf, marked as markedRule, versionOf, torn as tornRule, unknownAt, firstUnknown, recordBytes, handleOf, openingOf, callOf, fieldsAt, decoded};
+ghost use Rattle.play.specs.Schedule.{numberAt, count as countRule, startOf, marked as markedRule, versionOf, torn as tornRule, unknownAt, firstUnknown, recordBytes, callOf, fieldsAt, decoded};
 ghost use Rattle.play.specs.Player.{flaw, flawOf};
 
 // How many bytes there are before the records, and in one.
@@ -72,62 +72,48 @@ pub fn count(s: &[u8]) -> usize
     (s.len() - HEAD) / RECORD
 }
 
-fn handle_of(call: u64, guard: usize, key: u64) -> Handle
-    ensures { λ r. ⌜ r ≡ handleOf call guard key ⌝ }
-{
-    if call == 2 {
-        return Handle::Drop;
-    }
-    if call == 3 {
-        return Handle::Enter;
-    }
-    if call == 4 {
-        return Handle::GoOn;
-    }
-    if call == 5 {
-        return Handle::Release(guard);
-    }
-    if call == 6 {
-        return Handle::LookUp(guard, key);
-    }
-    Handle::WasDropped
-}
-
-fn opening_of(call: u64) -> Opening
-    ensures { λ r. ⌜ r ≡ openingOf call ⌝ }
-{
-    if call == 9 {
-        return Opening::Publish;
-    }
-    if call == 10 {
-        return Opening::Try;
-    }
-    if call == 11 {
-        return Opening::Flush;
-    }
-    Opening::Take
-}
-
-// What a record's fields mean.
+// What a record's fields mean, by the call's number.
 fn call_of(f: Fields) -> Call
     ensures { λ r. ⌜ r ≡ callOf f ⌝ }
 {
     let call = f.call;
-    if call == 1 {
+    if call < 2 {
         return Call::Create;
     }
-    if call < 8 {
-        let h = handle_of(call, f.guard, f.key);
-        return Call::On(f.slot, h);
+    if call < 3 {
+        return Call::On(f.slot, Handle::Drop);
     }
-    if call == 8 {
+    if call < 4 {
+        return Call::On(f.slot, Handle::Enter);
+    }
+    if call < 5 {
+        return Call::On(f.slot, Handle::GoOn);
+    }
+    if call < 6 {
+        return Call::On(f.slot, Handle::Release(f.guard));
+    }
+    if call < 7 {
+        return Call::On(f.slot, Handle::LookUp(f.guard, f.key));
+    }
+    if call < 8 {
+        return Call::On(f.slot, Handle::WasDropped);
+    }
+    if call < 9 {
         return Call::Append(f.kind, f.key, f.amount);
     }
-    if call < 13 {
-        let o = opening_of(call);
-        return Call::Open(o);
+    if call < 10 {
+        return Call::Open(Opening::Publish);
     }
-    if call == 13 {
+    if call < 11 {
+        return Call::Open(Opening::Try);
+    }
+    if call < 12 {
+        return Call::Open(Opening::Flush);
+    }
+    if call < 13 {
+        return Call::Open(Opening::Take);
+    }
+    if call < 14 {
         return Call::Step;
     }
     Call::Run

@@ -1,45 +1,78 @@
--- Each return is the rule's under the tests that led there.
-use borrow.Author.Needs.{needs}
-use borrow.Author.Tests.{eq-eqb, ne-eqb, lt-ltb, le-ltb}
-use Rattle.play.specs.Schedule.{callOf}
+-- Each return is the rule's at the number that the tests have found.
+use Prim.Native.Nat.{ℕ, _-_, _≤_}
+use mathlib.Core.Path.{_≡_, sym, ap}
+use native.Mathlib.Omega.{arith}
+use lib.ListN.{getD, List·getD-eq-default}
+use Rattle.write.specs.declared.Call.the-variants.{Run}
+use Rattle.play.specs.declared.schedule.Fields.{Fields}
+use Rattle.play.specs.Schedule.{callsBy, callOf}
 use Rattle.play.proofs.schedule.call_of.Statement.{statement}
 use Rattle.play.proofs.schedule.call_of.Tie as tie
 
-returns : tie.Need-returns
-returns c =
-    let k = c .before .args .f .call in
-    rw (eq-eqb k 1 (c .if1 .taken), callOf)
+-- the call of number n + 1
+by-number : (f : Fields) (n : ℕ) → f .call - 1 ≡ n → getD (callsBy f) n Run ≡ callOf f
+by-number f n e = sym (ap (λ (k : ℕ). getD (callsBy f) k Run) e)
 
-handle-of-requires : tie.Need-handle-of-requires
-handle-of-requires c κs = search needs
+returns : tie.Need-returns
+returns c = by-number (c .before .args .f) 0 (omega (arith, c .if1 .taken))
 
 returns-2 : tie.Need-returns-2
-returns-2 c =
-    let k = c .before .before .before .args .f .call in
-    rw (ne-eqb k 1 (c .before .before .if1 .left), lt-ltb k 8 (c .before .if2 .taken), c .handle-of .ensures, callOf)
+returns-2 c = by-number (c .before .before .args .f) 1 (omega (arith, c .if2 .taken, c .before .if1 .left))
 
 returns-3 : tie.Need-returns-3
-returns-3 c =
-    let k = c .before .before .before .args .f .call in
-    rw (ne-eqb k 1 (c .before .before .if1 .left), le-ltb k 8 (c .before .if2 .left), eq-eqb k 8 (c .if3 .taken), callOf)
-
-opening-of-requires : tie.Need-opening-of-requires
-opening-of-requires c κs = search needs
+returns-3 c = by-number (c .before .before .before .args .f) 2 (omega (arith, c .if3 .taken, c .before .if2 .left))
 
 returns-4 : tie.Need-returns-4
-returns-4 c =
-    let k = c .before .before .before .before .before .args .f .call in
-    rw (ne-eqb k 1 (c .before .before .before .before .if1 .left), le-ltb k 8 (c .before .before .before .if2 .left), ne-eqb k 8 (c .before .before .if3 .left), lt-ltb k 13 (c .before .if4 .taken), c .opening-of .ensures, callOf)
+returns-4 c = by-number (c .before .before .before .before .args .f) 3 (omega (arith, c .if4 .taken, c .before .if3 .left))
 
 returns-5 : tie.Need-returns-5
-returns-5 c =
-    let k = c .before .before .before .before .before .args .f .call in
-    rw (ne-eqb k 1 (c .before .before .before .before .if1 .left), le-ltb k 8 (c .before .before .before .if2 .left), ne-eqb k 8 (c .before .before .if3 .left), le-ltb k 13 (c .before .if4 .left), eq-eqb k 13 (c .if5 .taken), callOf)
+returns-5 c = by-number (c .before .before .before .before .before .args .f) 4 (omega (arith, c .if5 .taken, c .before .if4 .left))
 
 returns-6 : tie.Need-returns-6
-returns-6 c =
-    let k = c .before .before .before .before .before .args .f .call in
-    rw (ne-eqb k 1 (c .before .before .before .before .if1 .left), le-ltb k 8 (c .before .before .before .if2 .left), ne-eqb k 8 (c .before .before .if3 .left), le-ltb k 13 (c .before .if4 .left), ne-eqb k 13 (c .if5 .left), callOf)
+returns-6 c = by-number (c .before .before .before .before .before .before .args .f) 5 (omega (arith, c .if6 .taken, c .before .if5 .left))
+
+returns-7 : tie.Need-returns-7
+returns-7 c = by-number (c .before .before .before .before .before .before .before .args .f) 6 (omega (arith, c .if7 .taken, c .before .if6 .left))
+
+returns-8 : tie.Need-returns-8
+returns-8 c = by-number (c .before .before .before .before .before .before .before .before .args .f) 7 (omega (arith, c .if8 .taken, c .before .if7 .left))
+
+returns-9 : tie.Need-returns-9
+returns-9 c = by-number (c .before .before .before .before .before .before .before .before .before .args .f) 8 (omega (arith, c .if9 .taken, c .before .if8 .left))
+
+returns-10 : tie.Need-returns-10
+returns-10 c = by-number (c .before .before .before .before .before .before .before .before .before .before .args .f) 9 (omega (arith, c .if10 .taken, c .before .if9 .left))
+
+returns-11 : tie.Need-returns-11
+returns-11 c = by-number (c .before .before .before .before .before .before .before .before .before .before .before .args .f) 10 (omega (arith, c .if11 .taken, c .before .if10 .left))
+
+returns-12 : tie.Need-returns-12
+returns-12 c = by-number (c .before .before .before .before .before .before .before .before .before .before .before .before .args .f) 11 (omega (arith, c .if12 .taken, c .before .if11 .left))
+
+returns-13 : tie.Need-returns-13
+returns-13 c = by-number (c .before .before .before .before .before .before .before .before .before .before .before .before .before .args .f) 12 (omega (arith, c .if13 .taken, c .before .if12 .left))
+
+returns-14 : tie.Need-returns-14
+returns-14 c =
+    let f = c .before .before .before .before .before .before .before .before .before .before .before .before .before .args .f in
+    let past : 13 ≤ f .call - 1 = omega (arith, c .if13 .left) in
+    sym (List·getD-eq-default (callsBy f) Run past)
 
 pub call-of-spec : {M : Type 1} → statement M
-call-of-spec = tie.close (tie.spec returns handle-of-requires returns-2 returns-3 opening-of-requires returns-4 returns-5 returns-6)
+call-of-spec =
+    tie.close
+    (tie.spec
+    returns
+    returns-2
+    returns-3
+    returns-4
+    returns-5
+    returns-6
+    returns-7
+    returns-8
+    returns-9
+    returns-10
+    returns-11
+    returns-12
+    returns-13
+    returns-14)
