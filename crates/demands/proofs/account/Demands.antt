@@ -31,7 +31,7 @@ use Rattle.write.proofs.Verdicts.{judging, admitted-unopposed, refused-mild}
 use Rattle.write.proofs.NeverBroken.{sound-judged, sound-fresh}
 use Rattle.demands.specs.Account.{Reader, Account, freshAccount, newReader, nobody, advanced, ran, noted}
 use Rattle.demands.specs.Table.{least, busy, wanted}
-use Rattle.demands.specs.Demands.{Unused as UnusedIn, Told, tell, telling, told, Runs, Shows, HandsOver, Demands, afterSteps as steppedWorld}
+use Rattle.demands.specs.Demands.{Unused as UnusedIn, Told, tell, telling, told, Runs, shown, copySeen, HandsOver, Demands, afterSteps as steppedWorld}
 use Rattle.demands.proofs.delay.RunIsSteps.{RunIsSteps, run-is-steps-sound}
 use Rattle.demands.proofs.Sides.{readCopy, writeCopy}
 use Rattle.demands.proofs.shown.Invariant.{seenOf, Stage, opsOf}
@@ -231,7 +231,7 @@ module _ {w : World} {a : Account} (h : Tie w a) where
       (λ _. refl))
       (λ x _. refl)
 
-  all-shows : Shows (record { world = w; account = a })
+  all-shows : (i j : ℕ) → shown i j w ≡ copySeen (a .readers i) j
   all-shows i j = split (a .readers i .guards j)
       (λ o. open-shows i j o ∙ ap (λ (b : Bool). elim b [ true ↦ after (a .readers i .loaded j) empty | false ↦ [] ]) (sym o))
       (λ o. shut-shows i j o ∙ ap (λ (b : Bool). elim b [ true ↦ after (a .readers i .loaded j) empty | false ↦ [] ]) (sym o))

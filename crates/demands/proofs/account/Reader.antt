@@ -25,8 +25,8 @@ use Rattle.read.specs.Handles.{withDue, freed, guarded, loaded, entered, wentOn
 use Rattle.read.specs.Admission.{column, entry}
 use Rattle.write.specs.Steps.{holds, seen}
 use Rattle.write.proofs.Verdicts.{Unopposed}
-use Rattle.demands.specs.Account.{Reader, withAt, lowest, inside, reader as readerOf, dropped, turned, opens, closes, readsEpoch, spoke, quits}
-use Rattle.demands.specs.Table.{delays, worthOn}
+use Rattle.demands.specs.Account.{delays, Reader, withAt, lowest, inside, reader as readerOf, dropped, turned, opens, closes, readsEpoch, spoke, quits}
+use Rattle.demands.specs.Table.{worthOn}
 use Rattle.demands.proofs.shown.Guards.{same-at, other-at, has-room, open-below, all-shut, at-put}
 use Rattle.demands.proofs.shown.Slot.{rowAfter}
 use Rattle.demands.proofs.Booleans.{clash, or-false, or-true, lacks-none}

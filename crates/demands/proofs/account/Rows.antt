@@ -27,7 +27,8 @@ use Rattle.write.specs.declared.Opening.the-variants as opening
 use Rattle.write.specs.Numbers.{is, among, isStep}
 use Rattle.write.proofs.Control.{Whole}
 use Rattle.demands.specs.Account.{Move, Account, account}
-use Rattle.demands.specs.Table.{least, busy, underLock, lockHeld, meetsReader, whatComesBack, wanted}
+use Rattle.demands.specs.Table.{least, busy, lockHeld, meetsReader, whatComesBack, wanted}
+use Rattle.demands.proofs.account.Moves.{underLock}
 use Rattle.demands.proofs.account.Plan.{moveOf, plan, plan-head, plan-none}
 use Rattle.demands.proofs.account.Control.{SteersOf}
 use Rattle.demands.proofs.Phases.{idle-or-gone}

@@ -34,9 +34,9 @@ use Rattle.write.proofs.Cases.{by}
 use Rattle.write.proofs.Verdicts.{judging, refused-mild, step-underway}
 use Rattle.write.proofs.Control.{Fits, fits, some-slot, whole-step}
 use Rattle.write.proofs.Left.{outcome, step-answer, Stepped, done, held, declined, declinedMove, step-stepped, step-value}
-use Rattle.demands.specs.Account.{Reader, Account, Move, null, withAt, ofReader, readsEpoch, dropped, withPlan, makes, advanced, noted}
-use Rattle.demands.specs.Table.{least, meets, meetsReader, wanted, wantedValue, worth}
-use Rattle.demands.proofs.account.Moves.{isSwap, each-move}
+use Rattle.demands.specs.Account.{Reader, Account, Move, null, withAt, ofReader, readsEpoch, dropped, withPlan, advanced, noted}
+use Rattle.demands.specs.Table.{least, meetsReader, wanted, wantedValue, worth}
+use Rattle.demands.proofs.account.Moves.{makes, meets, isSwap, each-move}
 use Rattle.demands.proofs.shown.Guards.{at-set, same-at, other-at}
 use Rattle.demands.proofs.shown.Invariant.{seen, seenOf, afterMove, Inv}
 use Rattle.demands.proofs.shown.Steps.{Next, stepOn-keeps}

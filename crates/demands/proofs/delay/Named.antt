@@ -22,8 +22,8 @@ use Rattle.write.specs.Begins.{writerSigns, columnOf}
 use Rattle.write.specs.Runs.{snapAt}
 use Rattle.write.specs.World.{World}
 use Rattle.write.proofs.Verdicts.{open-idle}
-use Rattle.demands.specs.Account.{Reader, Account, Move, poll, each, inside}
-use Rattle.demands.specs.Table.{least, busy, delays, meetsReader, wanted}
+use Rattle.demands.specs.Account.{delays, Reader, Account, Move, poll, each, inside}
+use Rattle.demands.specs.Table.{least, busy, meetsReader, wanted}
 use Rattle.demands.specs.Follows.{Named}
 use Rattle.demands.proofs.shown.Invariant.{odd, Shape, outside, announced, inside as entered}
 use Rattle.demands.proofs.shown.Slot.{at-rest}
