@@ -46,7 +46,7 @@ use Rattle.write.proofs.Control.{Whole, some-slot}
 use Rattle.demands.specs.Account.{Reader, Account, withAt, newReader, turned, spoke, unswapped, unpublished, accepts, ofStore, ofReader, missed, withPlan, noted}
 use Rattle.demands.specs.Table.{wanted, wantedValue, worth, worthOn}
 use Rattle.demands.proofs.Phases.{withJob}
-use Rattle.demands.proofs.shown.Invariant.{Held, reachAt, seen, seenOf, Quiet, ViewOf, Inv}
+use Rattle.demands.proofs.shown.Invariant.{Held, reachAt, sight, seenOf, Quiet, ViewOf, Inv}
 use Rattle.demands.proofs.shown.Guards.{at-set, none-open, same-at, other-at, new-shut}
 use Rattle.demands.proofs.shown.Slot.{rowAfter, handled-view, new-view, reload}
 use Rattle.demands.proofs.shown.Log.{length-ops}
@@ -125,7 +125,7 @@ module _ (rs : ℕ → Reader) (i : ℕ) where
 
 pub loads-nothing : {x : World} (a : Account) (i : ℕ) (r : Reader) → r .loaded ≡ a .readers i .loaded → InvOf x a → InvOf x (ofReader i (λ _. r) a)
 loads-nothing {x} a i r e h =
-    subst (λ (ld : ℕ → ℕ → List Op). Inv x (seen (a .store .accepted) (a .store .atBegin) (a .store .published) ld))
+    subst (λ (ld : ℕ → ℕ → List Op). Inv x (sight (a .store .accepted) (a .store .atBegin) (a .store .published) ld))
     (λ z k. sym (same-loaded (a .readers) i r e k) z) h
 
 -- what is read and put back is as it was

@@ -30,7 +30,7 @@ use Rattle.write.specs.World.{World, worldOf}
 use Rattle.write.proofs.Verdicts.{Unopposed}
 use Rattle.write.proofs.Control.{some-slot}
 use Rattle.demands.proofs.Sides.{readCopy, writeCopy}
-use Rattle.demands.proofs.shown.Invariant.{Seen, Quiet, Stage, Inv, opsFrom, opsOf, reachAt, firstly, orAll}
+use Rattle.demands.proofs.shown.Invariant.{Seen, sight, Quiet, Stage, Inv, opsFrom, opsOf, reachAt, firstly, orAll}
 use Rattle.demands.proofs.shown.Slot.{within-same, twice-view, weaken}
 use Rattle.demands.proofs.shown.Unused.{clear-operated, clear-logged}
 use Rattle.demands.proofs.shown.Log.{length-ops, ops-logged}
@@ -87,7 +87,7 @@ module _ {w : World} {t : Seen} (sound : SoundIn w) (inv : Inv w t) where
       op = record { kind = kind; key = key; amount = amount }
 
       abbrev grown : Seen
-      grown = record { accepted = t .accepted ++ (op ∷ []); atBegin = t .atBegin; published = t .published; loaded = t .loaded }
+      grown = sight (t .accepted ++ (op ∷ [])) (t .atBegin) (t .published) (t .loaded)
 
       pub first-keeps :
           ctl w .first ≡ true → lawful kind key amount ≡ true →
@@ -131,7 +131,7 @@ module _ {w : World} {t : Seen} (sound : SoundIn w) (inv : Inv w t) where
 
     -- a publish, a try or a take begins
     abbrev begins : Seen
-    begins = record { accepted = t .accepted; atBegin = t .accepted; published = t .published; loaded = t .loaded }
+    begins = sight (t .accepted) (t .accepted) (t .published) (t .loaded)
 
     open-step :
         {j : Job} {q : Phase} → Begins (ctl w) q → StageIn w t q j →
