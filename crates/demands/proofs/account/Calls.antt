@@ -201,28 +201,32 @@ module _ {w : World} {a : Account} (tie : Tie w a) where
 
   -- ---- create
 
+  -- the lowest free slot
+  abbrev free : ℕ
+  free = firstFree (w .state .slots)
+
   pub create-right : Right a Create (reply callOn Create w)
   unfolding callOn
   create-right =
-      judging (λ (o : Reply). Right a Create (lent o (w .left) (w .right) (w .log))) (smallest (createSigns c (firstFree (w .state .slots))))
+      judging (λ (o : Reply). Right a Create (lent o (w .left) (w .right) (w .log))) (smallest (createSigns c free))
       (λ v.
       let z = want ∙ ap (λ x. answerNo x 0) v in
+      let lt : free < slotCount = leb-false slotCount free (admitted-unopposed (createSigns c free) v .slots) in
       record {
         answer = sym z;
-        value = value-done a Create (firstFree (w .state .slots)) z free;
-        inv = slot-inv (firstFree (w .state .slots)) (leb-false slotCount (firstFree (w .state .slots)) (admitted-unopposed (createSigns c (firstFree (w .state .slots))) v .slots)) (newReader (a .readers (firstFree (w .state .slots)))) newSlot
-            (λ _ _. record { idle = refl; alone = none-open }) new-view;
+        value = value-done a Create free z free-is;
+        inv = slot-inv free lt (newReader (a .readers free)) newSlot (λ _ _. record { idle = refl; alone = none-open }) new-view;
         steers = tie .steers;
-        reads = slot-reads (w .state) a len (tie .reads) (firstFree (w .state .slots)) (leb-false slotCount (firstFree (w .state .slots)) (admitted-unopposed (createSigns c (firstFree (w .state .slots))) v .slots)) (newReader (a .readers (firstFree (w .state .slots)))) newSlot
-            (record { lives = refl; due = refl; guards = new-shut; epoch = refl; snapshot = tie .reads (firstFree (w .state .slots)) .snapshot });
+        reads = slot-reads (w .state) a len (tie .reads) free lt (newReader (a .readers free)) newSlot
+            (record { lives = refl; due = refl; guards = new-shut; epoch = refl; snapshot = tie .reads free .snapshot });
       })
-      (λ x v. mild-right Create refl x (refused-mild (createSigns c (firstFree (w .state .slots))) x v) (want ∙ ap (λ y. answerNo y 0) v) (w .state) refl)
+      (λ x v. mild-right Create refl x (refused-mild (createSigns c free) x v) (want ∙ ap (λ y. answerNo y 0) v) (w .state) refl)
     where
-      free : firstFree (w .state .slots) ≡ seek (λ i. not (a .readers i .lives)) 0 slotCount
-      free = λ z. seek (λ i. not (tie .reads i .lives z)) 0 slotCount
+      free-is : firstFree (w .state .slots) ≡ seek (λ i. not (a .readers i .lives)) 0 slotCount
+      free-is = λ z. seek (λ i. not (tie .reads i .lives z)) 0 slotCount
 
       want : wanted a Create ≡ answerNo (smallest (createSigns c (firstFree (w .state .slots)))) 0
-      want = wanted-create a c (tie .steers) whole (firstFree (w .state .slots)) free
+      want = wanted-create a c (tie .steers) whole (firstFree (w .state .slots)) free-is
 
   -- ---- a call on a handle
 

@@ -153,6 +153,11 @@ module _ {w : World} {a : Account} (h : Tie w a) where
   abbrev c : Control
   c = w .state .control
 
+  pub living-in : (i : ℕ) → a .readers i .lives ≡ true → i < slotCount
+  living-in i e =
+      under i slotCount (λ lt. lt)
+      (λ le. clash (h .reads i .lives ∙ e) (ap (λ (x : Slot). x .used) (List·getD-eq-default (w .state .slots) noSlot (let z = h .sound .slots in omega arith))))
+
   -- ---- a living guard
 
   module _ (i j : ℕ) (o : a .readers i .guards j ≡ true) where
@@ -163,8 +168,7 @@ module _ {w : World} {a : Account} (h : Tie w a) where
     owner = sym (h .reads i .lives) ∙ guard-inside (h .inv .each i .shape) j open-here .0
 
     owner-in : i < slotCount
-    owner-in = under i slotCount (λ lt. lt)
-        (λ le. clash (h .reads i .lives ∙ owner) (ap (λ (x : Slot). x .used) (List·getD-eq-default (w .state .slots) noSlot (let z = h .sound .slots in omega arith))))
+    owner-in = living-in i owner
 
     not-both : (eqb i 0 && busy a || false) ≡ false
     not-both = go (eqb i 0) (busy a) refl refl
