@@ -9,7 +9,7 @@ use Rattle.table.proofs.Computes.{apart}
 use Rattle.table.specs.declared.Answer.the-variants.{Done, NoGuard}
 use Rattle.read.specs.declared.Due.the-variants.{Nothing}
 use Rattle.read.specs.declared.Slot.{Slot}
-use Rattle.read.specs.Machine.{openOn, noGuards, withReading, newSlot, shut}
+use Rattle.read.specs.Machine.{withUse, isOpen, openOn, noGuards, withReading, newSlot, shut}
 use Rattle.read.specs.Handles.{released}
 use Rattle.read.proofs.Computes.{rules}
 use Rattle.place.specs.declared.Released.{Released}
@@ -62,3 +62,19 @@ refusesAll guard s = record { answer = NoGuard; slot = s }
 refusesAll-wrong : (k : Function) → Promise k refusesAll → ⊥
 unfolding releaseRule rules
 refusesAll-wrong k h = apart (λ r. number (r .answer)) refl (says k refusesAll h 0 inside refl)
+
+-- a free record is served
+abbrev servesFree : ℕ → Slot → Released
+servesFree guard s = releaseRule guard (withUse true s)
+
+servesFree-wrong : (k : Function) → Promise k servesFree → ⊥
+unfolding releaseRule rules
+servesFree-wrong k h = apart (λ r. number (r .answer)) refl (says k servesFree h 0 (withUse false inside) refl)
+
+-- a free record with a closed guard is answered 9, and not the smaller number
+abbrev guardFirst : ℕ → Slot → Released
+guardFirst guard s = elim (isOpen (s .guards) guard) [ true ↦ releaseRule guard s | false ↦ record { answer = NoGuard; slot = s } ]
+
+guardFirst-wrong : (k : Function) → Promise k guardFirst → ⊥
+unfolding releaseRule rules
+guardFirst-wrong k h = apart (λ r. number (r .answer)) refl (says k guardFirst h 1 (withUse false inside) refl)

@@ -12,11 +12,17 @@ pub struct Released {
     pub slot: Slot,
 }
 
-// The release by value: the guard closes, and the last one adds one to the epoch; a guard that is not open is refused, and
-// nothing changes.
-pub fn by_value(s: Slot, guard: usize) -> Released
+// The release by value: the guard closes, and the last one adds one to the epoch; a free record, and a guard that is not open, are
+// refused, and nothing changes.
+fn by_value(s: Slot, guard: usize) -> Released
     ensures { λ r. ⌜ r ≡ releaseRule guard s ⌝ }
 {
+    if !s.used {
+        return Released {
+            answer: Answer::NoSlot,
+            slot: s,
+        };
+    }
     let g = s.guards;
     if guards::is_open(g, guard) {
         let t = guards::released(guard, s);

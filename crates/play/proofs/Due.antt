@@ -23,14 +23,14 @@ use Rattle.read.specs.declared.Reply.{Reply}
 use Rattle.read.specs.declared.Verdict.{Verdict}
 use Rattle.read.specs.declared.Verdict.the-variants.{Admitted, Refused}
 use Rattle.read.proofs.Cases.{reply-past, reply-in, create-refused, create-made}
-use Rattle.read.specs.Machine.{slotCount, noSlot, newSlot, underway, isGone}
+use Rattle.read.specs.Machine.{slotCount, noSlot, newSlot, underway, isGone, place}
 use Rattle.read.specs.Admission.{entry, notNow}
 use Rattle.read.specs.Handles.{given, smallest, handleOn}
 use Rattle.read.specs.Calls.{Lent, lent, slotAt, withSlot, refusal, createSigns, createReply}
 use Rattle.write.specs.declared.Moved.{Moved}
 use Rattle.write.specs.declared.Call.{Call}
 use Rattle.write.specs.declared.Call.the-variants.{Create, On, Append, Open, Step, Run}
-use Rattle.write.specs.Steps.{refused, stepAt, place}
+use Rattle.write.specs.Steps.{refused, stepAt}
 use Rattle.write.specs.Begins.{stepSigns}
 use Rattle.write.specs.Runs.{snapAt, lift, stepOn, left, steps, runOn}
 use Rattle.write.specs.Machine.{going, callOn}

@@ -16,11 +16,11 @@ use Rattle.read.specs.declared.Control.{Control}
 use Rattle.read.specs.declared.Slot.{Slot}
 use Rattle.read.specs.declared.State.{State}
 use Rattle.read.specs.declared.Reply.{Reply}
-use Rattle.read.specs.Machine.{slotCount, logWords, noSlot, fresh}
+use Rattle.read.specs.Machine.{slotCount, logWords, noSlot, fresh, place}
 use Rattle.read.specs.Calls.{Lent, lent, refusal, startRule}
 use Rattle.write.specs.declared.Moved.{Moved}
 use Rattle.write.specs.declared.Call.{Call}
-use Rattle.write.specs.Steps.{refused, stepAt, place}
+use Rattle.write.specs.Steps.{refused, stepAt}
 use Rattle.write.specs.Runs.{left}
 use Rattle.write.proofs.Left.{left-small}
 use Rattle.write.proofs.RunLaws.{stateOf}

@@ -19,13 +19,13 @@ use Rattle.read.specs.declared.Job.{Job}
 use Rattle.read.specs.declared.Job.the-variants.{Publish, Try, TakeFirst, TakeSecond}
 use Rattle.read.specs.declared.State.{State}
 use Rattle.read.specs.declared.Reply.{Reply}
-use Rattle.read.specs.Machine.{underway}
+use Rattle.read.specs.Machine.{underway, place}
 use Rattle.read.specs.Handles.{bit}
 use Rattle.read.specs.Calls.{Lent, lent, slotAt}
 use Rattle.write.specs.declared.Moved.{Moved}
 use Rattle.write.specs.declared.Call.{Call}
 use Rattle.write.specs.declared.Call.the-variants.{Create, On, Append, Open, Step, Run}
-use Rattle.write.specs.Steps.{holds, refused, stopped, pollMove, lastPollMove, stepAt, place}
+use Rattle.write.specs.Steps.{holds, refused, stopped, pollMove, lastPollMove, stepAt}
 use Rattle.write.specs.Runs.{snapAt, stepOn, left, steps}
 use Rattle.write.specs.Machine.{callOn}
 use Rattle.write.proofs.Control.{Whole}

@@ -17,16 +17,16 @@ use Rattle.read.specs.declared.Guard.{Guard}
 use Rattle.read.specs.declared.Slot.{Slot}
 use Rattle.read.specs.declared.Control.{Control}
 use Rattle.read.specs.declared.Handle.{Handle}
-use Rattle.read.specs.declared.Handle.the-variants.{GoOn, LookUp}
+use Rattle.read.specs.declared.Handle.the-variants.{LookUp}
 use Rattle.read.specs.declared.Verdict.the-variants.{Admitted, Refused}
 use Rattle.read.specs.declared.State.{State}
 use Rattle.read.specs.declared.Made.{Made}
 use Rattle.read.specs.declared.Reply.{Reply}
-use Rattle.read.specs.Machine.{withReading, slotCount, newSlot, fresh, logRoom, logWords, guardCount, shut, isOpen, standsRight, putGuard, firstGuard, anyOpen, allOpen, isLoad, wholeControl, sized, glanced, judged, firstUnlawful}
-use Rattle.read.specs.Handles.{copyOf, guardedCopy, bumped, withDue, guarded, loaded, entered, released, lacksRoom, smallest, handleSigns, handled, handleOn}
+use Rattle.read.specs.Machine.{withReading, slotCount, newSlot, fresh, logRoom, logWords, guardCount, shut, isOpen, standsRight, putGuard, firstGuard, anyOpen, wholeControl, sized, glanced, judged, firstUnlawful}
+use Rattle.read.specs.Handles.{copyOf, guardedCopy, bumped, withDue, guarded, loaded, entered, released, smallest, handleSigns, handled, handleOn}
 use Rattle.read.specs.Calls.{slotAt, withSlot, refusal, lent, firstFree, createSigns, handleReply, handleRule, createReply, createRule, throughGuard, throughRule, startRule}
-use Rattle.read.proofs.Tests.{and-left, and-right, and-false}
-use Rattle.read.proofs.Verdicts.{refused-admitted, admitted-clear}
+use Rattle.read.proofs.Tests.{and-left, and-right}
+use Rattle.read.proofs.Verdicts.{refused-not, admitted-unopposed}
 
 -- a state by its parts
 abbrev pub stateOf : Control → List Slot → List ℕ → State
@@ -107,18 +107,6 @@ module _ (j : ℕ) (s : Slot) {x : Guard} {gs : List Guard} {b : Bool} (e : x �
   released-last o u h =
       h ∙ (λ i. withReading (u i) (gs-is i) (s .due) s) ∙ sym (rw (ap anyOpen (sym gs-is) ∙ sym q ∙ o, released))
 
--- ---- room for a guard
-
-module _ (null : Bool) (s : Slot) where
-  pub room-null : null ≡ true → lacksRoom GoOn null s ≡ false
-  room-null e = rw e (and-false (isLoad (s .due)))
-
-  pub room-load : isLoad (s .due) ≡ true → null ≡ false → lacksRoom GoOn null s ≡ allOpen (s .guards)
-  room-load e n = rw (e, n)
-
-  pub room-none : isLoad (s .due) ≡ false → lacksRoom GoOn null s ≡ false
-  room-none e = rw e
-
 -- ---- the judgement
 
 -- the lengths that the slices must have
@@ -177,8 +165,8 @@ module _ (c : Control) (l r g : List ℕ) where
       split (sized l r g)
       (λ s. split (leb (entries l) pairs && (leb (entries r) pairs && wholeControl c))
       (λ w. omega (arith, sized-lengths l r g s, whole-length c (and-right (leb (entries r) pairs) (wholeControl c) (and-right (leb (entries l) pairs) _ w))))
-      (λ w. absurd (refused-admitted answer.Broken (sym (glanced-broken s w) ∙ e))))
-      (λ s. absurd (refused-admitted answer.Length (sym (glanced-length s) ∙ e)))
+      (λ w. refused-not (sym (glanced-broken s w) ∙ e)))
+      (λ s. refused-not (sym (glanced-length s) ∙ e))
 
 -- ---- slots
 
@@ -239,7 +227,7 @@ module _ (i : ℕ) (st : State) where
 
   -- where it is made, the slot is there
   pub create-room : smallest (createSigns (st .control) i) ≡ Admitted → i < slotCount
-  create-room e = leb-false slotCount i (admitted-clear (createSigns (st .control) i) e .«slots_full»)
+  create-room e = leb-false slotCount i (admitted-unopposed (createSigns (st .control) i) e .1 .0)
 
 module _ (l r g : List ℕ) (st : State) where
   pub new-refused : (a : Answer) → judged (st .control) l r g ≡ Refused a → createRule l r g st ≡ refusal a st

@@ -19,10 +19,8 @@ use Rattle.read.proofs.guards.freed.Reads as guards-freed
 use Rattle.read.proofs.guards.entered.Reads as guards-entered
 use Rattle.read.proofs.guards.went_on.Reads as guards-went-on
 use Rattle.read.proofs.guards.released.Reads as guards-released
-use Rattle.read.proofs.handles.signs.Reads as handles-signs
 use Rattle.read.proofs.handles.guarded_copy.Reads as handles-guarded-copy
 use Rattle.read.proofs.judge.either.Reads as judge-either
-use Rattle.read.proofs.judge.smallest.Reads as judge-smallest
 use Rattle.read.proofs.judge.locks.Reads as judge-locks
 use Rattle.read.proofs.judge.nulls.Reads as judge-nulls
 use Rattle.read.proofs.judge.same.Reads as judge-same
@@ -87,17 +85,11 @@ guards-went-on-determined κs a r q s t h l = h ∙ sym l
 guards-released-determined : (κs : _) (a : _) (r q : _) (s t : _) → guards-released.Post κs a r s → guards-released.Post κs a q t → r ≡ q
 guards-released-determined κs a r q s t h l = h ∙ sym l
 
-handles-signs-determined : (κs : _) (a : _) (r q : _) (s t : _) → handles-signs.Post κs a r s → handles-signs.Post κs a q t → r ≡ q
-handles-signs-determined κs a r q s t h l = h ∙ sym l
-
 handles-guarded-copy-determined : (κs : _) (a : _) (r q : _) (s t : _) → handles-guarded-copy.Post κs a r s → handles-guarded-copy.Post κs a q t → now r ≡ now q
 handles-guarded-copy-determined κs a r q s t h l = h ∙ sym l
 
 judge-either-determined : (κs : _) (a : _) (r q : _) (s t : _) → judge-either.Post κs a r s → judge-either.Post κs a q t → r ≡ q
 judge-either-determined κs a r q s t h l = h ∙ sym l
-
-judge-smallest-determined : (κs : _) (a : _) (r q : _) (s t : _) → judge-smallest.Post κs a r s → judge-smallest.Post κs a q t → r ≡ q
-judge-smallest-determined κs a r q s t h l = h ∙ sym l
 
 judge-locks-determined : (κs : _) (a : _) (r q : _) (s t : _) → judge-locks.Post κs a r s → judge-locks.Post κs a q t → r ≡ q
 judge-locks-determined κs a r q s t h l = h ∙ sym l

@@ -3,9 +3,6 @@ pub mod Tests
 pub mod Table
 pub mod Verdicts
 pub mod Cases
-pub mod Ends
-pub mod Touch
-pub mod Parity
 pub mod Determined
 pub mod Computes
 pub mod Promises

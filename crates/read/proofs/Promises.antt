@@ -11,7 +11,6 @@ use Rattle.read.specs.declared.Control.{Control}
 use Rattle.read.specs.declared.State.{State}
 use Rattle.read.specs.declared.Handle.{Handle}
 use Rattle.read.specs.declared.Verdict.{Verdict}
-use Rattle.read.specs.declared.Signs.{Signs}
 use Rattle.read.specs.declared.Made.{Made}
 use Rattle.read.specs.declared.Reply.{Reply}
 use Rattle.read.specs.declared.Handle.the-variants.{Drop, Enter, GoOn, Release, LookUp, WasDropped}
@@ -72,10 +71,10 @@ ReleasedPromise = Keeps2 (typed tt proofs.guards.released.Kinds.ps) (proofs.guar
 
 -- ---- a call on a handle, on its slot
 
-abbrev pub SignsPromise : (Control → Bool → Slot → Handle → Signs) → Type 0
-SignsPromise f =
+abbrev pub VerdictPromise : (Control → Bool → Slot → Handle → Verdict) → Type 0
+VerdictPromise f =
     (c : Control) (own : Bool) (s : Slot) (h : Handle) →
-    Keeps (typed tt proofs.handles.signs.Kinds.ps) (proofs.handles.signs.Reads.Post tt) (c, (own, (s, (h, tt)))) (f c own s h)
+    Keeps (typed tt proofs.handles.verdict.Kinds.ps) (proofs.handles.verdict.Reads.Post tt) (c, (own, (s, (h, tt)))) (f c own s h)
 
 abbrev pub GuardedCopyPromise : (List Guard → ℕ → List ℕ → List ℕ → List ℕ) → Type 0
 GuardedCopyPromise f =
@@ -93,9 +92,6 @@ HandlePromise f =
 
 abbrev pub EitherPromise : (Bool → Bool → Bool) → Type 0
 EitherPromise = Keeps2 (typed tt proofs.judge.either.Kinds.ps) (proofs.judge.either.Reads.Post tt)
-
-abbrev pub SmallestPromise : (Signs → Verdict) → Type 0
-SmallestPromise = Keeps1 (typed tt proofs.judge.smallest.Kinds.ps) (proofs.judge.smallest.Reads.Post tt)
 
 abbrev pub LocksPromise : (Phase → Bool) → Type 0
 LocksPromise = Keeps1 (typed tt proofs.judge.locks.Kinds.ps) (proofs.judge.locks.Reads.Post tt)
@@ -189,8 +185,8 @@ pub kept :
     RowPromise row × EntryPromise entry × ColumnPromise column × FirstGuardPromise firstGuard × IsOpenPromise isOpen
     × AnyOpenPromise anyOpen × AllOpenPromise allOpen × IsDuePromise isDue × IsLoadPromise isLoad × NoSlotPromise noSlot
     × NewSlotPromise newSlot × FreedPromise freed × EnteredPromise entered × WentOnPromise (λ c s. wentOn c (s .due) s)
-    × ReleasedPromise released × SignsPromise handleSigns × GuardedCopyPromise guardedCopy × HandlePromise handleOn
-    × EitherPromise _||_ × SmallestPromise smallest × LocksPromise locks × NullsPromise nulls × SamePromise same
+    × ReleasedPromise released × VerdictPromise (λ c own s h. smallest (handleSigns c own s h)) × GuardedCopyPromise guardedCopy × HandlePromise handleOn
+    × EitherPromise _||_ × LocksPromise locks × NullsPromise nulls × SamePromise same
     × SizedPromise sized × GlancePromise glanced × JudgePromise judged × StartPromise startRule × CreatePromise createRule
     × DropPromise (λ i. handleRule i Drop) × EnterPromise (λ i. handleRule i Enter) × GoOnPromise (λ i. handleRule i GoOn)
     × WasDroppedPromise (λ i. handleRule i WasDropped) × OnHandlePromise handleRule

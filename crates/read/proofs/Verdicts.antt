@@ -1,57 +1,84 @@
--- What it means that no sign speaks against a call, and that two verdicts are apart.
-use Prim.Native.Nat.{ℕ}
-use mathlib.Core.Path.{_≡_, refl}
-use mathlib.Core.Bool.{Bool, true, false}
+-- What it means that nothing speaks against a call, which answers a refusal has, and the tests of the code one after the other.
+use Prim.Native.Nat.{ℕ, _≤_}
+use mathlib.Core.Path.{_≡_, refl, sym, ap, subst, _∙_}
+use mathlib.Core.Bool.{Bool, true, false, _&&_}
+use mathlib.Core.List.{List, [], _∷_}
 use native.Mathlib.Omega.{arith}
+use lib.Dec.{leb}
+use borrow.Author.Tests.{leb-true}
+use Rattle.table.specs.Answers.{number, refusing}
 use Rattle.table.specs.declared.Answer.{Answer}
 use Rattle.read.specs.declared.Verdict.{Verdict}
 use Rattle.read.specs.declared.Verdict.the-variants.{Admitted, Refused}
-use Rattle.read.specs.declared.Signs.{Signs}
-use Rattle.read.specs.Handles.{given, smallest}
+use Rattle.read.specs.Handles.{Sign, sign, smallest}
+use Rattle.read.proofs.Tests.{and-left, and-right}
 
-pub refused-admitted : (a : Answer) → Refused a ≡ Admitted → ⊥
-refused-admitted a e = let z : _≡_ {A = ℕ} 0 1 = cc in omega arith
+pub refused-not : {a : Answer} {C : Type 0} → Refused a ≡ Admitted → C
+refused-not e = let z : _≡_ {A = ℕ} 0 1 = cc in absurd (omega arith)
 
--- no sign is set
-pub record Clear (s : Signs) : Type 0 where
-  pub gone : s .gone ≡ false
-  pub «no_slot» : s .«no_slot» ≡ false
-  pub operation : s .operation ≡ false
-  pub «not_now» : s .«not_now» ≡ false
-  pub locked : s .locked ≡ false
-  pub «guards_open» : s .«guards_open» ≡ false
-  pub «no_guard» : s .«no_guard» ≡ false
-  pub «four_guards» : s .«four_guards» ≡ false
-  pub «log_full» : s .«log_full» ≡ false
-  pub «slots_full» : s .«slots_full» ≡ false
+abbrev given : Bool → Answer → Verdict → Verdict
+given b a v = elim b [ true ↦ Refused a | false ↦ v ]
 
-given-clear : (b : Bool) (a : Answer) (v : Verdict) → given b a v ≡ Admitted → (b ≡ false) × (v ≡ Admitted)
-given-clear true a v e = absurd (refused-admitted a e)
-given-clear false a v e = (refl, e)
+-- ---- admitted: none applies
 
--- a call is admitted only where none is
-pub admitted-clear : (s : Signs) → smallest s ≡ Admitted → Clear s
+abbrev pub Unopposed : List Sign → Type 0
+Unopposed [] = Unit {0}
+Unopposed (x ∷ xs) = (x .applies ≡ false) × Unopposed xs
+
+passed : (b : Bool) (a : Answer) (v : Verdict) → given b a v ≡ Admitted → (b ≡ false) × (v ≡ Admitted)
+passed true a v e = refused-not e
+passed false a v e = (refl, e)
+
+pub admitted-unopposed : (xs : List Sign) → smallest xs ≡ Admitted → Unopposed xs
 unfolding smallest
-admitted-clear s e =
-    let a = given-clear (s .gone) _ _ e in
-    let b = given-clear (s .«no_slot») _ _ (a .1) in
-    let c = given-clear (s .operation) _ _ (b .1) in
-    let d = given-clear (s .«not_now») _ _ (c .1) in
-    let f = given-clear (s .locked) _ _ (d .1) in
-    let g = given-clear (s .«guards_open») _ _ (f .1) in
-    let h = given-clear (s .«no_guard») _ _ (g .1) in
-    let i = given-clear (s .«four_guards») _ _ (h .1) in
-    let j = given-clear (s .«log_full») _ _ (i .1) in
-    let k = given-clear (s .«slots_full») _ _ (j .1) in
-    record {
-      gone = a .0;
-      «no_slot» = b .0;
-      operation = c .0;
-      «not_now» = d .0;
-      locked = f .0;
-      «guards_open» = g .0;
-      «no_guard» = h .0;
-      «four_guards» = i .0;
-      «log_full» = j .0;
-      «slots_full» = k .0;
-    }
+admitted-unopposed [] e = tt
+admitted-unopposed (x ∷ xs) e =
+    let p = passed (x .applies) (x .answer) (smallest xs) e in (p .0, admitted-unopposed xs (p .1))
+
+-- ---- refused: by 3 to 12, where all that may be given are among these
+
+abbrev pub Refusal : Answer → Type 0
+Refusal a = (3 ≤ number a) × (number a ≤ 12)
+
+abbrev pub mild : List Sign → Bool
+mild [] = true
+mild (x ∷ xs) = (leb 3 (number (x .answer)) && refusing (number (x .answer))) && mild xs
+
+abbrev Mild : Verdict → Type 0
+Mild Admitted = Unit {0}
+Mild (Refused a) = Refusal a
+
+given-mild : (b : Bool) (a : Answer) (v : Verdict) → Refusal a → Mild v → Mild (given b a v)
+given-mild true a v h m = h
+given-mild false a v h m = m
+
+smallest-mild : (xs : List Sign) → mild xs ≡ true → Mild (smallest xs)
+unfolding smallest
+smallest-mild [] h = tt
+smallest-mild (x ∷ xs) h =
+    let n = number (x .answer) in
+    let u = leb 3 n && refusing n in
+    let p = and-left u (mild xs) h in
+    given-mild (x .applies) (x .answer) (smallest xs)
+    (leb-true 3 n (and-left (leb 3 n) (refusing n) p), leb-true n 12 (and-right (leb 1 n) (leb n 12) (and-right (leb 3 n) (refusing n) p)))
+    (smallest-mild xs (and-right u (mild xs) h))
+
+pub refused-mild : (xs : List Sign) → mild xs ≡ true → (a : Answer) → smallest xs ≡ Refused a → Refusal a
+refused-mild xs h a e = subst Mild e (smallest-mild xs h)
+
+-- ---- the tests of the code
+
+module _ (a : Answer) (b : Bool) (xs : List Sign) {v : Verdict} where
+  -- this one applies
+  pub first-here : b ≡ true → v ≡ Refused a → v ≡ smallest (sign a b ∷ xs)
+  unfolding smallest
+  first-here e h = h ∙ ap (λ (b : Bool). given b a (smallest xs)) (sym e)
+
+  -- it does not
+  pub first-on : b ≡ false → v ≡ smallest xs → v ≡ smallest (sign a b ∷ xs)
+  unfolding smallest
+  first-on e h = h ∙ ap (λ (b : Bool). given b a (smallest xs)) (sym e)
+
+pub first-none : {v : Verdict} → v ≡ Admitted → v ≡ smallest []
+unfolding smallest
+first-none h = h

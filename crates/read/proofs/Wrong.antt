@@ -23,20 +23,19 @@ use Rattle.read.specs.declared.Handle.{Handle}
 use Rattle.read.specs.declared.Handle.the-variants.{Drop, Enter, GoOn, Release, LookUp, WasDropped}
 use Rattle.read.specs.declared.Verdict.{Verdict}
 use Rattle.read.specs.declared.Verdict.the-variants.{Admitted, Refused}
-use Rattle.read.specs.declared.Signs.{Signs}
 use Rattle.read.specs.declared.Made.{Made}
 use Rattle.read.specs.declared.Reply.{Reply}
 use Rattle.read.specs.Machine.{standing, holding, openOn, withUse, withReading, slotCount, guardCount, logWords, shut, noGuards, isOpen, standsRight, putGuard, same, firstGuard, anyOpen, allOpen, isDue, isLoad, noSlot, newSlot, isGone, underway, wholeControl, glanced, judged, fresh, row}
-use Rattle.read.specs.Admission.{column, entry}
-use Rattle.read.specs.Handles.{smallest, handleSigns, bumped, withDue, loaded, entered, wentOn, released, copyOf}
+use Rattle.read.specs.Admission.{handleNumber, column, entry}
+use Rattle.read.specs.Handles.{mistimed, smallest, handleSigns, bumped, withDue, loaded, entered, wentOn, released, copyOf}
 use Rattle.read.specs.Calls.{slotAt, withSlot, refusal, Lent, lent, handleReply, firstFree, handleRule, createRule, viewRule, pairRule, startRule}
 use Rattle.table.proofs.Computes.{apart}
 use Rattle.table.proofs.Contracts.{Words, slice}
 use Rattle.read.proofs.Computes.{rules}
 use Rattle.read.proofs.Promises.{RowPromise, EntryPromise, ColumnPromise, FirstGuardPromise, IsOpenPromise}
 use Rattle.read.proofs.Promises.{AnyOpenPromise, AllOpenPromise, IsDuePromise, IsLoadPromise, NoSlotPromise, NewSlotPromise}
-use Rattle.read.proofs.Promises.{FreedPromise, EnteredPromise, WentOnPromise, ReleasedPromise, SignsPromise, GuardedCopyPromise}
-use Rattle.read.proofs.Promises.{HandlePromise, EitherPromise, SmallestPromise, LocksPromise, NullsPromise, SamePromise}
+use Rattle.read.proofs.Promises.{FreedPromise, EnteredPromise, WentOnPromise, ReleasedPromise, VerdictPromise, GuardedCopyPromise}
+use Rattle.read.proofs.Promises.{HandlePromise, EitherPromise, LocksPromise, NullsPromise, SamePromise}
 use Rattle.read.proofs.Promises.{SizedPromise, GlancePromise, JudgePromise, StartPromise, CreatePromise, DropPromise, EnterPromise}
 use Rattle.read.proofs.Promises.{GoOnPromise, WasDroppedPromise, OnHandlePromise, ReleasePromise, LookUpPromise, ViewPromise}
 use Rattle.read.proofs.Promises.{PairPromise}
@@ -349,51 +348,39 @@ leftCopy gs j l r = l
 leftCopy-wrong : GuardedCopyPromise leftCopy → ⊥
 leftCopy-wrong h = apart (word 3) refl (h right 0 left7 right7 refl)
 
--- ---- signs and verdicts
+-- ---- verdicts
+
+abbrev Judgement : Type 0
+Judgement = Control → Bool → Slot → Handle → Verdict
 
 -- a step that is due is not seen
-abbrev noMistime : Control → Bool → Slot → Handle → Signs
-noMistime c own s h = handleSigns c own (withDue (s .epoch) Nothing s) h
+abbrev noMistime : Judgement
+noMistime c own s h = smallest (handleSigns c own (withDue (s .epoch) Nothing s) h)
 
-noMistime-wrong : SignsPromise noMistime → ⊥
+noMistime-wrong : VerdictPromise noMistime → ⊥
 unfolding rules
-noMistime-wrong h = apart (λ s. bit (s .«not_now»)) refl (h idle false (slotWith 1 noGuards Load) Enter refl)
+noMistime-wrong h = apart verdict refl (h idle false (slotWith 1 noGuards Load) Enter refl)
 
 -- a free slot has a handle
-abbrev freeServes : Control → Bool → Slot → Handle → Signs
-freeServes c own s h = handleSigns c own (slotWith (s .epoch) (s .guards) (s .due)) h
+abbrev freeServes : Judgement
+freeServes c own s h = smallest (handleSigns c own (slotWith (s .epoch) (s .guards) (s .due)) h)
 
-freeServes-wrong : SignsPromise freeServes → ⊥
+freeServes-wrong : VerdictPromise freeServes → ⊥
 unfolding rules
-freeServes-wrong h = apart (λ s. bit (s .«no_slot»)) refl (h idle false noSlot Enter refl)
-
-abbrev signsOf : Bool → Bool → Signs
-signsOf a b =
-    record {
-      gone = false;
-      «no_slot» = a;
-      operation = false;
-      «not_now» = b;
-      locked = false;
-      «guards_open» = false;
-      «no_guard» = false;
-      «four_guards» = false;
-      «log_full» = false;
-      «slots_full» = false;
-    }
+freeServes-wrong h = apart verdict refl (h idle false noSlot Enter refl)
 
 -- a larger number wins
-abbrev larger : Signs → Verdict
-larger s = elim (s .«not_now») [ true ↦ Refused answer.NotNow | false ↦ smallest s ]
+abbrev larger : Judgement
+larger c own s h = elim (mistimed (handleNumber h) (s .due)) [ true ↦ Refused answer.NotNow | false ↦ smallest (handleSigns c own s h) ]
 
-larger-wrong : SmallestPromise larger → ⊥
+larger-wrong : VerdictPromise larger → ⊥
 unfolding rules
-larger-wrong h = apart verdict refl (h (signsOf true true) refl)
+larger-wrong h = apart verdict refl (h idle false (withReading 1 noGuards Load noSlot) Enter refl)
 
--- no sign matters
-admitsAll-wrong : SmallestPromise (λ s. Admitted) → ⊥
+-- nothing speaks against a call
+admitsAll-wrong : VerdictPromise (λ c own s h. Admitted) → ⊥
 unfolding rules
-admitsAll-wrong h = apart verdict refl (h (signsOf true false) refl)
+admitsAll-wrong h = apart verdict refl (h idle false noSlot Enter refl)
 
 -- either is both, or the first alone
 either-both-wrong : EitherPromise _&&_ → ⊥

@@ -1,7 +1,7 @@
 -- The reader's calls on the whole machine: judged on all of it, and changing one slot.
 use Prim.Native.Nat.{ℕ}
 use mathlib.Core.Bool.{true, false, not}
-use mathlib.Core.List.{List, []}
+use mathlib.Core.List.{List, [], _∷_}
 use lib.ListN.{getD, set}
 use lib.Dec.{eqb, ltb, leb}
 use Rattle.table.specs.Seek.{seek}
@@ -14,11 +14,10 @@ use Rattle.read.specs.declared.State.{State}
 use Rattle.read.specs.declared.Handle.{Handle}
 use Rattle.read.specs.declared.Handle.the-variants.{LookUp}
 use Rattle.read.specs.declared.Verdict.the-variants.{Admitted, Refused}
-use Rattle.read.specs.declared.Signs.{Signs}
 use Rattle.read.specs.declared.Reply.{Reply}
 use Rattle.read.specs.Machine.{slotCount, noSlot, newSlot, sized, judged, fresh}
 use Rattle.read.specs.Admission.{createColumn, entry}
-use Rattle.read.specs.Handles.{smallest, handleSigns, handleOn, guardedCopy}
+use Rattle.read.specs.Handles.{Sign, sign, smallest, handleSigns, handleOn, guardedCopy}
 
 abbrev pub slotAt : State → ℕ → Slot
 slotAt st i = getD (st .slots) i noSlot
@@ -59,20 +58,8 @@ handleRule i h l r g st =
 abbrev pub firstFree : List Slot → ℕ
 firstFree ss = seek (λ i. not (getD ss i noSlot .used)) 0 slotCount
 
-abbrev pub createSigns : Control → ℕ → Signs
-createSigns c i =
-    record {
-      gone = false;
-      «no_slot» = false;
-      operation = false;
-      «not_now» = false;
-      locked = eqb (entry (c .phase) createColumn) 7;
-      «guards_open» = false;
-      «no_guard» = false;
-      «four_guards» = false;
-      «log_full» = false;
-      «slots_full» = leb slotCount i;
-    }
+abbrev pub createSigns : Control → ℕ → List Sign
+createSigns c i = sign answer.Locked (eqb (entry (c .phase) createColumn) 7) ∷ sign answer.SlotsFull (leb slotCount i) ∷ []
 
 abbrev pub createReply : ℕ → State → Reply
 createReply i st =

@@ -1,9 +1,9 @@
 -- What a call on a handle does: to its own slot alone, judged by the control part and that slot.
 use Prim.Native.Nat.{ℕ, _+_, _%_, _^_}
 use mathlib.Core.Bool.{Bool, true, false, not, _&&_, _||_}
-use mathlib.Core.List.{List}
+use mathlib.Core.List.{List, [], _∷_}
 use lib.ListN.{getD}
-use lib.Dec.{eqb}
+use lib.Dec.{eqb, ltb}
 use Rattle.table.specs.Copy.{lookRule}
 use Rattle.table.specs.declared.Answer.{Answer}
 use Rattle.table.specs.declared.Answer.the-variants as answer
@@ -16,81 +16,54 @@ use Rattle.read.specs.declared.Handle.{Handle}
 use Rattle.read.specs.declared.Handle.the-variants.{Drop, Enter, GoOn, Release, LookUp, WasDropped}
 use Rattle.read.specs.declared.Verdict.{Verdict}
 use Rattle.read.specs.declared.Verdict.the-variants.{Admitted, Refused}
-use Rattle.read.specs.declared.Signs.{Signs}
 use Rattle.read.specs.declared.Made.{Made}
 use Rattle.read.specs.Machine.{shut, openOn, withUse, withReading, isOpen, standsRight, putGuard, firstGuard, anyOpen, allOpen, isDue, isLoad}
-use Rattle.read.specs.Admission.{column, entry}
+use Rattle.read.specs.Admission.{handleNumber, guardNamed, column, entry}
 
 -- ---- which refusal is given
 
-abbrev pub given : Bool → Answer → Verdict → Verdict
-given sign a otherwise = elim sign [ true ↦ Refused a | false ↦ otherwise ]
+-- what speaks against a call: a refusal, and whether it applies
+pub record Sign : Type 0 where
+  pub answer : Answer
+  pub applies : Bool
 
--- the smallest number whose sign is set
-unfoldable pub smallest : Signs → Verdict
-smallest s =
-    given (s .gone) answer.Gone
-    (given (s .«no_slot») answer.NoSlot
-    (given (s .operation) answer.Operation
-    (given (s .«not_now») answer.NotNow
-    (given (s .locked) answer.Locked
-    (given (s .«guards_open») answer.GuardsOpen
-    (given (s .«no_guard») answer.NoGuard
-    (given (s .«four_guards») answer.FourGuards
-    (given (s .«log_full») answer.LogFull (given (s .«slots_full») answer.SlotsFull Admitted)))))))))
+abbrev pub sign : Answer → Bool → Sign
+sign a b = record { answer = a; applies = b }
 
--- enter or drop with a step due; go on with none
-abbrev pub mistimed : Handle → Due → Bool
-mistimed Drop d = isDue d
-mistimed Enter d = isDue d
-mistimed GoOn d = not (isDue d)
-mistimed (Release g) d = false
-mistimed (LookUp g key) d = false
-mistimed WasDropped d = false
+-- the first that applies; those of a call stand in the order of their numbers, so it is the smallest
+unfoldable pub smallest : List Sign → Verdict
+smallest [] = Admitted
+smallest (x ∷ xs) = elim (x .applies) [ true ↦ Refused (x .answer) | false ↦ smallest xs ]
+
+-- of the call n: enter or drop with a step due; go on with none
+abbrev pub mistimed : ℕ → Due → Bool
+mistimed n d = elim (eqb n 4) [ true ↦ not (isDue d) | false ↦ ltb n 4 && isDue d ]
 
 -- drop with guards
-abbrev pub leavesGuards : Handle → List Guard → Bool
-leavesGuards Drop gs = anyOpen gs
-leavesGuards Enter gs = false
-leavesGuards GoOn gs = false
-leavesGuards (Release g) gs = false
-leavesGuards (LookUp g key) gs = false
-leavesGuards WasDropped gs = false
+abbrev pub leavesGuards : ℕ → List Guard → Bool
+leavesGuards n gs = eqb n 2 && anyOpen gs
 
--- a guard that is not there: its number over 3, or closed
-abbrev pub lacksGuard : Handle → List Guard → Bool
-lacksGuard Drop gs = false
-lacksGuard Enter gs = false
-lacksGuard GoOn gs = false
-lacksGuard (Release g) gs = not (isOpen gs g)
-lacksGuard (LookUp g key) gs = not (isOpen gs g)
-lacksGuard WasDropped gs = false
+-- release or look up through a guard that is not there: its number over 3, or closed
+abbrev pub lacksGuard : ℕ → ℕ → List Guard → Bool
+lacksGuard n j gs = (eqb n 5 || eqb n 6) && not (isOpen gs j)
 
 -- enter with four open, or a load that is due and would open a fifth
-abbrev pub lacksRoom : Handle → Bool → Slot → Bool
-lacksRoom Drop null s = false
-lacksRoom Enter null s = allOpen (s .guards)
-lacksRoom GoOn null s = isLoad (s .due) && (not null && allOpen (s .guards))
-lacksRoom (Release g) null s = false
-lacksRoom (LookUp g key) null s = false
-lacksRoom WasDropped null s = false
+abbrev pub lacksRoom : ℕ → Bool → Slot → Bool
+lacksRoom n null s =
+    elim (eqb n 3) [ true ↦ allOpen (s .guards) | false ↦ eqb n 4 && (isLoad (s .due) && (not null && allOpen (s .guards))) ]
 
 -- what speaks against a call; own: on slot 0
-abbrev pub handleSigns : Control → Bool → Slot → Handle → Signs
+abbrev pub handleSigns : Control → Bool → Slot → Handle → List Sign
 handleSigns c own s h =
+    let n = handleNumber h in
     let e = entry (c .phase) (column h own) in
-    record {
-      gone = false;
-      «no_slot» = not (s .used);
-      operation = false;
-      «not_now» = eqb e 6 || mistimed h (s .due);
-      locked = eqb e 7;
-      «guards_open» = leavesGuards h (s .guards);
-      «no_guard» = lacksGuard h (s .guards);
-      «four_guards» = lacksRoom h (c .null) s;
-      «log_full» = false;
-      «slots_full» = false;
-    }
+    sign answer.NoSlot (not (s .used))
+    ∷ sign answer.NotNow (eqb e 6 || mistimed n (s .due))
+    ∷ sign answer.Locked (eqb e 7)
+    ∷ sign answer.GuardsOpen (leavesGuards n (s .guards))
+    ∷ sign answer.NoGuard (lacksGuard n (guardNamed h) (s .guards))
+    ∷ sign answer.FourGuards (lacksRoom n (c .null) s)
+    ∷ []
 
 -- ---- what is done
 

@@ -1,6 +1,6 @@
 -- The machine's parts: sizes, the fresh state, the writer's phases, and what makes a state broken.
 use Prim.Native.Nat.{ℕ, _+_, _-_, _*_}
-use mathlib.Core.Bool.{Bool, true, false, not, _&&_}
+use mathlib.Core.Bool.{Bool, true, false, not, _&&_, _||_}
 use mathlib.Core.List.{List, _∷_}
 use lib.ListN.{length, getD, set, replicate}
 use lib.Dec.{eqb, ltb, leb}
@@ -103,32 +103,35 @@ newSlot = withUse true noSlot
 
 -- ---- the writer's phases
 
--- of a phase: its row in the table of admissions, whether a call of the writer is under way, the lock held, the pointer null
+-- of a phase: its row in the table of admissions, the slot that its step looks at, the operation of the log that it applies, whether a
+-- call of the writer is under way, the lock held, the pointer null
 pub record Stage : Type 0 where
   pub row : ℕ
+  pub slot : ℕ
+  pub applied : ℕ
   pub goes : Bool
   pub locked : Bool
   pub null : Bool
 
-abbrev pub stage : ℕ → Bool → Bool → Bool → Stage
-stage n g l p = record { row = n; goes = g; locked = l; null = p }
+abbrev pub stage : ℕ → ℕ → ℕ → Bool → Bool → Bool → Stage
+stage n i k g l p = record { row = n; slot = i; applied = k; goes = g; locked = l; null = p }
 
 -- the lock is held in a publish, and from take's last snapshots to its finish; the pointer is null from take's lock step on
 abbrev pub stageOf : Phase → Stage
-stageOf Idle = stage 0 false false false
-stageOf Begin = stage 1 true false false
-stageOf (Poll k) = stage 2 true true false
-stageOf Copy = stage 3 true true false
-stageOf Drain = stage 4 true true false
-stageOf (Keep k) = stage 5 true true false
-stageOf Swap = stage 6 true true false
-stageOf (Snap k) = stage 7 true true false
-stageOf Null = stage 8 true false false
-stageOf Lock = stage 9 true false true
-stageOf (LastSnap k) = stage 10 true true true
-stageOf (LastPoll k) = stage 11 true true true
-stageOf Finish = stage 12 true true true
-stageOf Gone = stage 13 false false true
+stageOf Idle = stage 0 0 0 false false false
+stageOf Begin = stage 1 0 0 true false false
+stageOf (Poll i) = stage 2 i 0 true true false
+stageOf Copy = stage 3 0 0 true true false
+stageOf Drain = stage 4 0 0 true true false
+stageOf (Keep k) = stage 5 0 k true true false
+stageOf Swap = stage 6 0 0 true true false
+stageOf (Snap i) = stage 7 i 0 true true false
+stageOf Null = stage 8 0 0 true false false
+stageOf Lock = stage 9 0 0 true false true
+stageOf (LastSnap i) = stage 10 i 0 true true true
+stageOf (LastPoll i) = stage 11 i 0 true true true
+stageOf Finish = stage 12 0 0 true true true
+stageOf Gone = stage 13 0 0 false false true
 
 abbrev pub row : Phase → ℕ
 row p = stageOf p .row
@@ -145,22 +148,22 @@ locks p = stageOf p .locked
 abbrev pub nulls : Phase → Bool
 nulls p = stageOf p .null
 
--- a phase's position is in range: a slot's number; an operation of the log; an operation before the swap index
+-- the slot that a step looks at
+abbrev pub place : Phase → ℕ
+place p = stageOf p .slot
+
+-- the phases that name one: poll, snapshot, and take's last
+abbrev pub looks : ℕ → Bool
+looks n = eqb n 2 || (eqb n 7 || (eqb n 10 || eqb n 11))
+
+-- a phase's position is in range: a slot's number; an operation of the log (row 5); and there is one before the swap index (row 4)
 abbrev pub inRange : Control → Phase → Bool
-inRange c Idle = true
-inRange c Begin = true
-inRange c (Poll k) = ltb k slotCount
-inRange c Copy = true
-inRange c Drain = ltb 0 (c .swapped)
-inRange c (Keep k) = ltb k (c .length)
-inRange c Swap = true
-inRange c (Snap k) = ltb k slotCount
-inRange c Null = true
-inRange c Lock = true
-inRange c (LastSnap k) = ltb k slotCount
-inRange c (LastPoll k) = ltb k slotCount
-inRange c Finish = true
-inRange c Gone = true
+inRange c p =
+    let n = row p in
+    elim (eqb n 4) [
+      | true ↦ ltb 0 (c .swapped)
+      | false ↦ elim (eqb n 5) [ true ↦ ltb (stageOf p .applied) (c .length) | false ↦ not (looks n) || ltb (place p) slotCount ]
+    ]
 
 -- ---- the log
 

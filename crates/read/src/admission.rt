@@ -2,8 +2,13 @@
 use crate::Handle;
 use crate::Phase;
 ghost use mathlib.Core.Path.{_≡_};
-ghost use Rattle.read.specs.Admission.{column as columnRule, entry as entryRule};
+ghost use Rattle.read.specs.Admission.{handleNumber, guardNamed, column as columnRule, entry as entryRule};
 ghost use Rattle.read.specs.Machine.{row as rowRule};
+
+// What the entries say: not now, locked.
+pub const NOT_NOW: u8 = 6;
+
+pub const LOCKED: u8 = 7;
 
 // A row for each phase, a column for each call 1 to 14, and for calls 2 to 7 on slot 0 another: 0 is admitted, 6 not now, 7 locked.
 // After gone the writer's calls have no entry of their own: they are answered 3, which is smaller than what stands there.
@@ -57,8 +62,36 @@ pub fn entry(p: Phase, column: usize) -> u8
     ADMITS[i][19]
 }
 
+// A call on a handle by its number in a schedule.
+pub(crate) fn number(h: Handle) -> usize
+    ensures { λ r. ⌜ r ≡ handleNumber h ⌝ }
+{
+    match h {
+        Handle::Drop => 2,
+        Handle::Enter => 3,
+        Handle::GoOn => 4,
+        Handle::Release(_) => 5,
+        Handle::LookUp(_, _) => 6,
+        Handle::WasDropped => 7,
+    }
+}
+
+// The guard that it names, 0 where it names none.
+pub(crate) fn guard_named(h: Handle) -> usize
+    ensures { λ r. ⌜ r ≡ guardNamed h ⌝ }
+{
+    match h {
+        Handle::Drop => 0,
+        Handle::Enter => 0,
+        Handle::GoOn => 0,
+        Handle::Release(j) => j,
+        Handle::LookUp(j, _) => j,
+        Handle::WasDropped => 0,
+    }
+}
+
 // The column of a call on a handle; `own`: on slot 0.
-pub fn column(h: Handle, own: bool) -> usize
+pub(crate) fn column(h: Handle, own: bool) -> usize
     ensures { λ r. ⌜ r ≡ columnRule h own ⌝ }
 {
     if own {

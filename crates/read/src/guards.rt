@@ -12,7 +12,7 @@ ghost use Rattle.read.specs.Machine.{shut as shutRule, openOn, isOpen, p
 ghost use Rattle.read.specs.Handles.{withDue, freed as freedRule, guarded as guardedRule, loaded as loadedRule, entered as enteredRule, wentOn, released as releasedRule};
 
 // The first guard that is open, or that is shut, by what is wanted; their number where there is none.
-pub fn first_guard(want: bool, g: [Guard; GUARDS]) -> usize
+pub(crate) fn first_guard(want: bool, g: [Guard; GUARDS]) -> usize
     ensures { λ r. ⌜ r ≡ firstGuard want g ⌝ }
 {
     let mut j = 0;
@@ -42,7 +42,7 @@ pub fn any_open(g: [Guard; GUARDS]) -> bool
     first_guard(true, g) < GUARDS
 }
 
-pub fn all_open(g: [Guard; GUARDS]) -> bool
+pub(crate) fn all_open(g: [Guard; GUARDS]) -> bool
     ensures { λ r. ⌜ r ≡ allOpen g ⌝ }
 {
     GUARDS <= first_guard(false, g)
@@ -58,7 +58,7 @@ pub fn is_due(d: Due) -> bool
     }
 }
 
-pub fn is_load(d: Due) -> bool
+pub(crate) fn is_load(d: Due) -> bool
     ensures { λ r. ⌜ r ≡ isLoad d ⌝ }
 {
     match d {
@@ -84,7 +84,7 @@ fn no_guards() -> [Guard; GUARDS]
     [g; GUARDS]
 }
 
-pub fn no_slot() -> Slot
+pub(crate) fn no_slot() -> Slot
     ensures { λ r. ⌜ r ≡ noSlot ⌝ }
 {
     let none = no_guards();
@@ -178,7 +178,7 @@ fn loaded(c: Control, d: Due, s: Slot) -> Made
     }
 }
 
-pub fn entered(c: Control, s: Slot) -> Made
+pub(crate) fn entered(c: Control, s: Slot) -> Made
     ensures { λ r. ⌜ r ≡ enteredRule c s ⌝ }
 {
     let g = s.guards;
@@ -194,7 +194,7 @@ pub fn entered(c: Control, s: Slot) -> Made
     }
 }
 
-pub fn went_on(c: Control, s: Slot) -> Made
+pub(crate) fn went_on(c: Control, s: Slot) -> Made
     ensures { λ r. ⌜ r ≡ wentOn c (s .due) s ⌝ }
 {
     let d = s.due;

@@ -5,7 +5,6 @@ use crate::GUARDS;
 use crate::Guard;
 use crate::Handle;
 use crate::Made;
-use crate::Signs;
 use crate::Slot;
 use crate::Verdict;
 use crate::admission;
@@ -13,96 +12,112 @@ use crate::guards;
 use crate::judge;
 use table::Answer;
 ghost use mathlib.Core.Path.{_≡_};
-ghost use mathlib.Core.Bool.{Bool};
+ghost use mathlib.Core.Bool.{not, _&&_};
+ghost use Rattle.read.specs.Machine.{isLoad, allOpen};
 ghost use lib.ListN.{getD};
 ghost use Rattle.table.specs.Copy.{lookRule};
-ghost use Rattle.read.specs.Handles.{mistimed as mistimedRule, leavesGuards, lacksGuard, lacksRoom, handleSigns, copyOf, guardedCopy, bit as bitRule, handled, handleOn};
+ghost use Rattle.read.specs.Handles.{mistimed as mistimedRule, leavesGuards, lacksGuard, lacksRoom, smallest, handleSigns, copyOf, guardedCopy, bit as bitRule, handled, handleOn};
+
+// The calls by their numbers in a schedule.
+const DROP: usize = 2;
+
+const ENTER: usize = 3;
+
+const GO_ON: usize = 4;
+
+const RELEASE: usize = 5;
+
+const LOOK_UP: usize = 6;
+
+// ---- what speaks against a call, by its number
 
 // Enter or drop with a step due, or go on with none.
-fn mistimed(h: Handle, d: Due) -> bool
-    ensures { λ r. ⌜ r ≡ mistimedRule h d ⌝ }
+fn mistimed(n: usize, d: Due) -> bool
+    ensures { λ r. ⌜ r ≡ mistimedRule n d ⌝ }
 {
-    match h {
-        Handle::Drop => guards::is_due(d),
-        Handle::Enter => guards::is_due(d),
-        Handle::GoOn => !guards::is_due(d),
-        Handle::Release(_) => false,
-        Handle::LookUp(_, _) => false,
-        Handle::WasDropped => false,
+    if n == GO_ON {
+        return !guards::is_due(d);
     }
+    if n < GO_ON {
+        return guards::is_due(d);
+    }
+    false
 }
 
-fn leaves_guards(h: Handle, g: [Guard; GUARDS]) -> bool
-    ensures { λ r. ⌜ r ≡ leavesGuards h g ⌝ }
+fn leaves_guards(n: usize, g: [Guard; GUARDS]) -> bool
+    ensures { λ r. ⌜ r ≡ leavesGuards n g ⌝ }
 {
-    match h {
-        Handle::Drop => guards::any_open(g),
-        Handle::Enter => false,
-        Handle::GoOn => false,
-        Handle::Release(_) => false,
-        Handle::LookUp(_, _) => false,
-        Handle::WasDropped => false,
+    if n == DROP {
+        return guards::any_open(g);
     }
+    false
 }
 
-fn lacks_guard(h: Handle, g: [Guard; GUARDS]) -> bool
-    ensures { λ r. ⌜ r ≡ lacksGuard h g ⌝ }
+fn lacks_guard(n: usize, j: usize, g: [Guard; GUARDS]) -> bool
+    ensures { λ r. ⌜ r ≡ lacksGuard n j g ⌝ }
 {
-    match h {
-        Handle::Drop => false,
-        Handle::Enter => false,
-        Handle::GoOn => false,
-        Handle::Release(j) => !guards::is_open(g, j),
-        Handle::LookUp(j, _) => !guards::is_open(g, j),
-        Handle::WasDropped => false,
+    if judge::either(n == RELEASE, n == LOOK_UP) {
+        return !guards::is_open(g, j);
     }
+    false
 }
 
-fn lacks_room(h: Handle, null: bool, s: Slot) -> bool
-    ensures { λ r. ⌜ r ≡ lacksRoom h null s ⌝ }
+// A load that is due and would open a fifth guard.
+fn fifth(null: bool, s: Slot) -> bool
+    ensures { λ r. ⌜ r ≡ (isLoad (s .due) && (not null && allOpen (s .guards))) ⌝ }
 {
-    let g = s.guards;
-    match h {
-        Handle::Drop => false,
-        Handle::Enter => guards::all_open(g),
-        Handle::GoOn => {
-            let d = s.due;
-            if guards::is_load(d) {
-                if null { false } else { guards::all_open(g) }
-            } else {
-                false
-            }
-        }
-        Handle::Release(_) => false,
-        Handle::LookUp(_, _) => false,
-        Handle::WasDropped => false,
-    }
-}
-
-// What speaks against a call; `own`: on slot 0.
-pub fn signs(c: Control, own: bool, s: Slot, h: Handle) -> Signs
-    ensures { λ r. ⌜ r ≡ handleSigns c own s h ⌝ }
-{
-    let p = c.phase;
-    let e = admission::entry(p, admission::column(h, own));
     let d = s.due;
     let g = s.guards;
-    let early = mistimed(h, d);
-    let left = leaves_guards(h, g);
-    let lacking = lacks_guard(h, g);
-    let crowded = lacks_room(h, c.null, s);
-    Signs {
-        gone: false,
-        no_slot: !s.used,
-        operation: false,
-        not_now: judge::either(e == 6, early),
-        locked: e == 7,
-        guards_open: left,
-        no_guard: lacking,
-        four_guards: crowded,
-        log_full: false,
-        slots_full: false,
+    if guards::is_load(d) {
+        if !null {
+            return guards::all_open(g);
+        }
     }
+    false
+}
+
+fn lacks_room(n: usize, null: bool, s: Slot) -> bool
+    ensures { λ r. ⌜ r ≡ lacksRoom n null s ⌝ }
+{
+    let g = s.guards;
+    if n == ENTER {
+        return guards::all_open(g);
+    }
+    if n == GO_ON {
+        return fifth(null, s);
+    }
+    false
+}
+
+// What speaks against a call; `own`: on slot 0. The smallest number is given.
+pub(crate) fn verdict(c: Control, own: bool, s: Slot, h: Handle) -> Verdict
+    ensures { λ r. ⌜ r ≡ smallest (handleSigns c own s h) ⌝ }
+{
+    let p = c.phase;
+    let d = s.due;
+    let g = s.guards;
+    let n = admission::number(h);
+    let j = admission::guard_named(h);
+    let e = admission::entry(p, admission::column(h, own));
+    if !s.used {
+        return Verdict::Refused(Answer::NoSlot);
+    }
+    if judge::either(e == admission::NOT_NOW, mistimed(n, d)) {
+        return Verdict::Refused(Answer::NotNow);
+    }
+    if e == admission::LOCKED {
+        return Verdict::Refused(Answer::Locked);
+    }
+    if leaves_guards(n, g) {
+        return Verdict::Refused(Answer::GuardsOpen);
+    }
+    if lacks_guard(n, j, g) {
+        return Verdict::Refused(Answer::NoGuard);
+    }
+    if lacks_room(n, c.null, s) {
+        return Verdict::Refused(Answer::FourGuards);
+    }
+    Verdict::Admitted
 }
 
 fn bit(b: bool) -> u64
@@ -112,7 +127,7 @@ fn bit(b: bool) -> u64
 }
 
 // The copy that guard `j` stands on.
-pub fn guarded_copy<'a>(
+pub(crate) fn guarded_copy<'a>(
     g: [Guard; GUARDS],
     j: usize,
     left: &'a [u64],
@@ -191,7 +206,7 @@ pub fn handle<'a>(
 ) -> Made
     ensures { λ r. ⌜ r ≡ handleOn c own s h (now (left .entry)) (now (right .entry)) ⌝ }
 {
-    let v = judge::smallest(signs(c, own, s, h));
+    let v = verdict(c, own, s, h);
     match v {
         Verdict::Refused(a) => Made {
             answer: a,

@@ -4,7 +4,6 @@ use crate::LOG_ROOM;
 use crate::LOG_WORDS;
 use crate::Phase;
 use crate::SLOTS;
-use crate::Signs;
 use crate::Verdict;
 use table::Answer;
 ghost use mathlib.Core.Path.{_≡_};
@@ -12,7 +11,6 @@ ghost use mathlib.Core.Bool.{_&&_, _||_};
 ghost use Prim.Native.Nat.{_≤_, _*_};
 ghost use lib.ListN.{length};
 ghost use Rattle.read.specs.Machine.{same as sameRule, locks as locksRule, nulls as nullsRule, isGone, underway as underwayRule, inRange, lawfulAt, firstUnlawful, sized as sizedRule, wholeControl, glanced, judged};
-ghost use Rattle.read.specs.Handles.{smallest as smallestRule};
 
 const MOST: u64 = table::PAIRS as u64;
 
@@ -20,43 +18,6 @@ pub fn either(a: bool, b: bool) -> bool
     ensures { λ r. ⌜ r ≡ (a || b) ⌝ }
 {
     if a { true } else { b }
-}
-
-// The smallest number whose sign is set.
-pub fn smallest(s: Signs) -> Verdict
-    ensures { λ r. ⌜ r ≡ smallestRule s ⌝ }
-{
-    if s.gone {
-        return Verdict::Refused(Answer::Gone);
-    }
-    if s.no_slot {
-        return Verdict::Refused(Answer::NoSlot);
-    }
-    if s.operation {
-        return Verdict::Refused(Answer::Operation);
-    }
-    if s.not_now {
-        return Verdict::Refused(Answer::NotNow);
-    }
-    if s.locked {
-        return Verdict::Refused(Answer::Locked);
-    }
-    if s.guards_open {
-        return Verdict::Refused(Answer::GuardsOpen);
-    }
-    if s.no_guard {
-        return Verdict::Refused(Answer::NoGuard);
-    }
-    if s.four_guards {
-        return Verdict::Refused(Answer::FourGuards);
-    }
-    if s.log_full {
-        return Verdict::Refused(Answer::LogFull);
-    }
-    if s.slots_full {
-        return Verdict::Refused(Answer::SlotsFull);
-    }
-    Verdict::Admitted
 }
 
 // The lock is held in a publish, and from take's last snapshots to its finish.
@@ -82,7 +43,7 @@ pub fn locks(p: Phase) -> bool
 }
 
 // The pointer is null from take's lock step on.
-pub fn nulls(p: Phase) -> bool
+pub(crate) fn nulls(p: Phase) -> bool
     ensures { λ r. ⌜ r ≡ nullsRule p ⌝ }
 {
     match p {
@@ -126,7 +87,7 @@ fn in_range(c: Control) -> bool
     }
 }
 
-pub fn same(a: bool, b: bool) -> bool
+pub(crate) fn same(a: bool, b: bool) -> bool
     ensures { λ r. ⌜ r ≡ sameRule a b ⌝ }
 {
     if a { b } else { !b }
@@ -165,7 +126,7 @@ fn first_unlawful(n: usize, log: &[u64]) -> usize
     i
 }
 
-pub fn sized(left: &[u64], right: &[u64], log: &[u64]) -> bool
+pub(crate) fn sized(left: &[u64], right: &[u64], log: &[u64]) -> bool
     ensures { λ r. ⌜ r ≡ sizedRule (now (left .entry)) (now (right .entry)) (now (log .entry)) ⌝ }
 {
     both(
@@ -175,7 +136,7 @@ pub fn sized(left: &[u64], right: &[u64], log: &[u64]) -> bool
 }
 
 // Lengths, entry counts and the control part: all but the walk over the log.
-pub fn glance(c: Control, left: &[u64], right: &[u64], log: &[u64]) -> Verdict
+pub(crate) fn glance(c: Control, left: &[u64], right: &[u64], log: &[u64]) -> Verdict
     ensures { λ r. ⌜ r ≡ glanced c (now (left .entry)) (now (right .entry)) (now (log .entry)) ⌝ }
 {
     if !sized(left, right, log) {

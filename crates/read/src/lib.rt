@@ -10,6 +10,7 @@ use table::Answer;
 ghost use mathlib.Core.Path.{_≡_};
 ghost use Prim.Native.Nat.{_<_};
 ghost use Rattle.read.specs.Machine.{slotCount, fresh};
+ghost use Rattle.read.specs.Handles.{smallest};
 ghost use Rattle.read.specs.Calls.{slotAt, withSlot, refusal as refusalOf, firstFree, createSigns, throughGuard, throughRule, lent, handleReply, handleRule, createReply, createRule, viewRule, pairRule, startRule};
 
 // How many slots there are, how many guards a handle has, how many operations the log has room for, and its words, three each.
@@ -20,6 +21,9 @@ pub const GUARDS: usize = 4;
 pub const LOG_ROOM: usize = 256;
 
 pub const LOG_WORDS: usize = 3 * LOG_ROOM;
+
+// The column of create in the table of admissions.
+const CREATE: usize = 0;
 
 // What a handle still has to do: the load of an enter, or putting the epoch back after a load that found null.
 pub enum Due {
@@ -101,20 +105,6 @@ pub enum Handle {
 pub enum Verdict {
     Admitted,
     Refused(Answer),
-}
-
-// What speaks against a call, in the order of the answers' numbers.
-pub struct Signs {
-    pub gone: bool,
-    pub no_slot: bool,
-    pub operation: bool,
-    pub not_now: bool,
-    pub locked: bool,
-    pub guards_open: bool,
-    pub no_guard: bool,
-    pub four_guards: bool,
-    pub log_full: bool,
-    pub slots_full: bool,
 }
 
 // What a call on a handle makes of its slot.
@@ -210,23 +200,18 @@ pub fn slot_at(st: State, slot: usize) -> Slot
     slots[slot]
 }
 
-fn create_signs(c: Control, i: usize) -> Signs
-    ensures { λ r. ⌜ r ≡ createSigns c i ⌝ }
+// What speaks against a create of slot `i`.
+fn create_verdict(c: Control, i: usize) -> Verdict
+    ensures { λ r. ⌜ r ≡ smallest (createSigns c i) ⌝ }
 {
     let p = c.phase;
-    let e = admission::entry(p, 0);
-    Signs {
-        gone: false,
-        no_slot: false,
-        operation: false,
-        not_now: false,
-        locked: e == 7,
-        guards_open: false,
-        no_guard: false,
-        four_guards: false,
-        log_full: false,
-        slots_full: SLOTS <= i,
+    if admission::entry(p, CREATE) == admission::LOCKED {
+        return Verdict::Refused(Answer::Locked);
     }
+    if SLOTS <= i {
+        return Verdict::Refused(Answer::SlotsFull);
+    }
+    Verdict::Admitted
 }
 
 // The whole copy that a guard stands on, or a part of no words, on a state that is whole.
@@ -244,7 +229,7 @@ fn through_guard<'a>(
     }
     let c = st.control;
     let s = slot_at(st, slot);
-    let v = judge::smallest(handles::signs(c, slot == 0, s, Handle::LookUp(guard, 0)));
+    let v = handles::verdict(c, slot == 0, s, Handle::LookUp(guard, 0));
     match v {
         Verdict::Refused(_) => &left[0..0],
         Verdict::Admitted => {
@@ -332,7 +317,7 @@ fn create_reply(i: usize, st: State) -> Reply
     ensures { λ r. ⌜ r ≡ createReply i st ⌝ }
 {
     let c = st.control;
-    let v = judge::smallest(create_signs(c, i));
+    let v = create_verdict(c, i);
     match v {
         Verdict::Refused(a) => refusal(a, st),
         Verdict::Admitted => {

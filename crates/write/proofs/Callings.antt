@@ -10,7 +10,6 @@ use Rattle.read.specs.declared.Slot.{Slot}
 use Rattle.read.specs.declared.Control.{Control}
 use Rattle.read.specs.declared.Verdict.{Verdict}
 use Rattle.read.specs.declared.Verdict.the-variants.{Admitted, Refused}
-use Rattle.read.specs.declared.Signs.{Signs}
 use Rattle.read.specs.declared.State.{State}
 use Rattle.read.specs.declared.Reply.{Reply}
 use Rattle.read.specs.Machine.{wholeControl, judged}
@@ -91,12 +90,12 @@ module _ (st : State) (l r g : List ℕ) where
 
   module _ (rule : State → List ℕ → List ℕ → List ℕ → Lent Reply) where
     -- step and run, by whether one is admitted
-    module _ (column : ℕ) {sg : Signs} {v : Verdict} (x : sg ≡ stepSigns column (st .control)) (h : v ≡ smallest sg) where
+    module _ (column : ℕ) {v : Verdict} (h : v ≡ smallest (stepSigns column (st .control))) where
       abbrev Going : Verdict → Lent Reply
       Going v = elim v [ Admitted ↦ rule st l r g | Refused a ↦ lent (refusal a st) l r g ]
 
       pub going-refused : {a : Answer} {q : Reply} → v ≡ Refused a → q ≡ refusal a st → lent q l r g ≡ going column rule st l r g
-      going-refused e y = ap (λ (q : Reply). lent q l r g) y ∙ ap Going (sym e ∙ h ∙ ap smallest x)
+      going-refused e y = ap (λ (q : Reply). lent q l r g) y ∙ ap Going (sym e ∙ h)
 
       pub going-admitted : {o : Lent Reply} → v ≡ Admitted → o ≡ rule st l r g → o ≡ going column rule st l r g
-      going-admitted e y = y ∙ ap Going (sym e ∙ h ∙ ap smallest x)
+      going-admitted e y = y ∙ ap Going (sym e ∙ h)

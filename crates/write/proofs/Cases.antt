@@ -25,7 +25,8 @@ use Rattle.write.specs.declared.Opening.{Opening}
 use Rattle.write.specs.Steps.{at, keeping, draining, polled, polling, beginning, published, lastPolling, lastSnapping, snapping, ended, withLog, refused}
 use Rattle.write.specs.Begins.{writerSigns, columnOf, logged, madeAtOnce, appendFirst, appended, appendOn, opened, openOn}
 use Rattle.write.specs.Runs.{afterStep, ranOut, runWhile}
-use Rattle.write.proofs.Verdicts.{judging, Refusal, refused-mild, admitted-unopposed, append-idle, open-idle}
+use Rattle.read.proofs.Verdicts.{Refusal, refused-mild, admitted-unopposed}
+use Rattle.write.proofs.Verdicts.{judging, append-idle, open-idle}
 
 -- another job; the phase stays, with its lock
 abbrev pub withJob : Job → Control → Control
@@ -108,9 +109,9 @@ module _ (P : Lent Moved → Type 0) (kind key amount : ℕ) (c : Control) (s : 
         judging P (smallest signs)
         (λ v.
         let u = admitted-unopposed signs v in
-        appended-cases (u .log)
-        (record { idle = append-idle (not (lawful kind key amount)) full c s v; lawfully = not-false (lawful kind key amount) (u .operation) }))
-        (λ a v. refusal a (refused-mild signs a v))
+        appended-cases (u .1 .1 .1 .1 .0)
+        (record { idle = append-idle (not (lawful kind key amount)) full c s v; lawfully = not-false (lawful kind key amount) (u .1 .0) }))
+        (λ a v. refusal a (refused-mild signs refl a v))
 
 pub open-cases :
     (P : Moved → Type 0) (o : Opening) (c : Control) (s : Slot) (e : ℕ) → (c .phase ≡ Idle → P (opened o c s e)) →
@@ -118,7 +119,7 @@ pub open-cases :
 unfolding openOn
 open-cases P o c s e f g =
     let signs = writerSigns (columnOf o) false false c s in
-    judging P (smallest signs) (λ v. f (open-idle o c s v)) (λ a v. g a (refused-mild signs a v))
+    judging P (smallest signs) (λ v. f (open-idle o c s v)) (λ a v. g a (refused-mild signs refl a v))
 
 -- ---- a run
 

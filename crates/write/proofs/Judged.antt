@@ -16,7 +16,7 @@ use Rattle.read.specs.declared.Verdict.{Verdict}
 use Rattle.read.specs.declared.Verdict.the-variants.{Admitted, Refused}
 use Rattle.read.specs.Machine.{logWords, lawfulAt, firstUnlawful, sized, wholeControl, glanced, judged}
 use Rattle.write.proofs.Count.{left}
-use Rattle.write.proofs.Verdicts.{refused-not}
+use Rattle.read.proofs.Verdicts.{refused-not}
 use Rattle.write.proofs.Control.{Whole, both, control-whole, whole-control}
 use Rattle.write.proofs.Words.{Words}
 

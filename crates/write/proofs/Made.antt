@@ -4,7 +4,7 @@ use mathlib.Core.Path.{_≡_, sym, ap, _∙_}
 use mathlib.Core.Bool.{Bool, true, false, not, _&&_, _||_}
 use mathlib.Core.List.{List}
 use native.Mathlib.Omega.{arith}
-use lib.Dec.{eqb, ltb, leb}
+use lib.Dec.{ltb, leb}
 use borrow.Author.Tests.{lt-ltb, le-ltb}
 use Rattle.table.specs.Copy.{lawful}
 use Rattle.table.specs.declared.Answer.{Answer}
@@ -16,81 +16,15 @@ use Rattle.read.specs.declared.Job.the-variants.{Try, TakeFirst}
 use Rattle.read.specs.declared.Control.{Control}
 use Rattle.read.specs.declared.Verdict.{Verdict}
 use Rattle.read.specs.declared.Verdict.the-variants.{Admitted, Refused}
-use Rattle.read.specs.declared.Signs.{Signs}
-use Rattle.read.specs.Machine.{standing, logRoom, isGone, isDue, anyOpen}
-use Rattle.read.specs.Admission.{entry}
+use Rattle.read.specs.Machine.{standing, logRoom}
 use Rattle.read.specs.Handles.{smallest, withDue}
 use Rattle.read.specs.Calls.{Lent, lent}
 use Rattle.write.specs.declared.Moved.{Moved}
 use Rattle.write.specs.declared.Opening.{Opening}
 use Rattle.write.specs.declared.Opening.the-variants as opening
 use Rattle.write.specs.Steps.{withLog, ofLeft, ofRight, operated, refused}
-use Rattle.write.specs.Begins.{writerSigns, stepSigns, logged, appendLater, appended, appendOn, columnOf, begun, value, taking, opened, openOn}
+use Rattle.write.specs.Begins.{writerSigns, logged, appendLater, appended, appendOn, columnOf, begun, value, taking, opened, openOn}
 use Rattle.write.proofs.Next.{polling-here}
-
--- ---- signs
-
-pub signs-of :
-    (column : ℕ) (unlawful full : Bool) (c : Control) (s : Slot) {gone late due inside : Bool} {e : ℕ} →
-    gone ≡ isGone (c .phase) → e ≡ entry (c .phase) column → due ≡ isDue (s .due) → late ≡ (eqb e 6 || due) → inside ≡ anyOpen (s .guards) →
-    record {
-      gone = gone;
-      «no_slot» = false;
-      operation = unlawful;
-      «not_now» = late;
-      locked = false;
-      «guards_open» = inside;
-      «no_guard» = false;
-      «four_guards» = false;
-      «log_full» = full;
-      «slots_full» = false;
-    }
-    ≡ writerSigns column unlawful full c s
-signs-of column unlawful full c s {late = late} x y z w v =
-    let u : late ≡ (eqb (entry (c .phase) column) 6 || isDue (s .due)) = w ∙ (λ i. eqb (y i) 6 || z i) in
-    λ i.
-    record {
-      gone = x i;
-      «no_slot» = false;
-      operation = unlawful;
-      «not_now» = u i;
-      locked = false;
-      «guards_open» = v i;
-      «no_guard» = false;
-      «four_guards» = false;
-      «log_full» = full;
-      «slots_full» = false;
-    }
-
-pub step-signs-of :
-    (column : ℕ) (c : Control) {gone : Bool} {e : ℕ} → gone ≡ isGone (c .phase) → e ≡ entry (c .phase) column →
-    record {
-      gone = gone;
-      «no_slot» = false;
-      operation = false;
-      «not_now» = eqb e 6;
-      locked = false;
-      «guards_open» = false;
-      «no_guard» = false;
-      «four_guards» = false;
-      «log_full» = false;
-      «slots_full» = false;
-    }
-    ≡ stepSigns column c
-step-signs-of column c x y =
-    λ i.
-    record {
-      gone = x i;
-      «no_slot» = false;
-      operation = false;
-      «not_now» = eqb (y i) 6;
-      locked = false;
-      «guards_open» = false;
-      «no_guard» = false;
-      «four_guards» = false;
-      «log_full» = false;
-      «slots_full» = false;
-    }
 
 -- ---- append
 
@@ -134,23 +68,22 @@ module _ (kind key amount : ℕ) (c : Control) (s : Slot) (e : ℕ) (l r g : Lis
 
   -- by the verdict on what speaks against it
   append-by :
-      {u f : Bool} {sg : Signs} {v w : Verdict} →
-      u ≡ lawful kind key amount → f ≡ (not (c .first) && leb logRoom (c .length)) → sg ≡ writerSigns 7 (not u) f c s →
-      v ≡ smallest sg → v ≡ w → Judged w ≡ appendOn kind key amount c s e l r g
+      {u f : Bool} {v w : Verdict} →
+      u ≡ lawful kind key amount → f ≡ (not (c .first) && leb logRoom (c .length)) → v ≡ smallest (writerSigns 7 (not u) f c s) →
+      v ≡ w → Judged w ≡ appendOn kind key amount c s e l r g
   unfolding appendOn
-  append-by x y z h q =
-      ap Judged (sym q ∙ h ∙ ap smallest z ∙ (λ i. smallest (writerSigns 7 (not (x i)) (y i) c s)))
+  append-by x y h q = ap Judged (sym q ∙ h ∙ (λ i. smallest (writerSigns 7 (not (x i)) (y i) c s)))
 
-  module _ {u f : Bool} {sg : Signs} {v : Verdict} (x : u ≡ lawful kind key amount) (y : f ≡ (not (c .first) && leb logRoom (c .length)))
-      (z : sg ≡ writerSigns 7 (not u) f c s) (h : v ≡ smallest sg)
+  module _ {u f : Bool} {v : Verdict} (x : u ≡ lawful kind key amount) (y : f ≡ (not (c .first) && leb logRoom (c .length)))
+      (h : v ≡ smallest (writerSigns 7 (not u) f c s))
     where
       pub append-admitted :
           {o : Lent Moved} → v ≡ Admitted → o ≡ appended (c .first) kind key amount c s e l r g → o ≡ appendOn kind key amount c s e l r g
-      append-admitted q k = k ∙ append-by x y z h q
+      append-admitted q k = k ∙ append-by x y h q
 
       pub append-refused :
           {a : Answer} {m : Moved} → v ≡ Refused a → m ≡ refused a c s e → lent m l r g ≡ appendOn kind key amount c s e l r g
-      append-refused q k = ap (λ (m : Moved). lent m l r g) k ∙ append-by x y z h q
+      append-refused q k = ap (λ (m : Moved). lent m l r g) k ∙ append-by x y h q
 
 -- ---- publish, try, flush, take
 
@@ -193,10 +126,10 @@ module _ (o : Opening) (c : Control) (s : Slot) (e : ℕ) where
   abbrev OpenJudged : Verdict → Moved
   OpenJudged v = elim v [ Admitted ↦ opened o c s e | Refused a ↦ refused a c s e ]
 
-  module _ {k : ℕ} {sg : Signs} {v : Verdict} (x : k ≡ columnOf o) (y : sg ≡ writerSigns k false false c s) (z : v ≡ smallest sg) where
+  module _ {k : ℕ} {v : Verdict} (x : k ≡ columnOf o) (z : v ≡ smallest (writerSigns k false false c s)) where
     open-by : {w : Verdict} → v ≡ w → OpenJudged w ≡ openOn o c s e
     unfolding openOn
-    open-by q = ap OpenJudged (sym q ∙ z ∙ ap smallest y ∙ ap (λ (k : ℕ). smallest (writerSigns k false false c s)) x)
+    open-by q = ap OpenJudged (sym q ∙ z ∙ ap (λ (k : ℕ). smallest (writerSigns k false false c s)) x)
 
     pub open-admitted : {m : Moved} → v ≡ Admitted → m ≡ opened o c s e → m ≡ openOn o c s e
     open-admitted q h = h ∙ open-by q

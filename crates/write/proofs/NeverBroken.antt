@@ -12,7 +12,7 @@ use Rattle.read.specs.declared.State.{State}
 use Rattle.read.specs.declared.Handle.{Handle}
 use Rattle.read.specs.declared.Reply.{Reply}
 use Rattle.read.specs.declared.Verdict.the-variants.{Admitted}
-use Rattle.read.specs.Machine.{slotCount, logWords, judged, fresh, newSlot, noSlot}
+use Rattle.read.specs.Machine.{slotCount, logWords, judged, fresh, newSlot, noSlot, place}
 use Rattle.read.specs.Handles.{smallest}
 use Rattle.read.specs.Calls.{Lent, lent, slotAt, withSlot, handleReply, createReply, createSigns, firstFree}
 use Rattle.write.specs.declared.Moved.{Moved}
@@ -20,7 +20,7 @@ use Rattle.write.specs.declared.Opening.{Opening}
 use Rattle.write.specs.declared.Opening.the-variants as opening
 use Rattle.write.specs.declared.Call.{Call}
 use Rattle.write.specs.declared.Call.the-variants.{Create, On, Append, Open, Step, Run}
-use Rattle.write.specs.Steps.{stepAt, place}
+use Rattle.write.specs.Steps.{stepAt}
 use Rattle.write.specs.Begins.{stepSigns, appendOn, openOn, opened}
 use Rattle.write.specs.Runs.{snapAt, lift, stepOn, enough, runWhile, runOn}
 use Rattle.write.specs.Machine.{going, callOn, callRule}

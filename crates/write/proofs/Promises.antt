@@ -11,13 +11,13 @@ use Rattle.read.specs.declared.Verdict.{Verdict}
 use Rattle.read.specs.declared.Verdict.the-variants.{Admitted, Refused}
 use Rattle.read.specs.declared.State.{State}
 use Rattle.read.specs.declared.Reply.{Reply}
-use Rattle.read.specs.Machine.{judged}
+use Rattle.read.specs.Machine.{judged, place}
 use Rattle.read.specs.Calls.{Lent, lent, refusal}
 use Rattle.write.specs.declared.Moved.{Moved}
 use Rattle.write.specs.declared.Opening.{Opening}
 use Rattle.write.specs.declared.Opening.the-variants.{Publish, Try, Flush, Take}
 use Rattle.write.specs.declared.Call.the-variants.{Append, Open, Step, Run}
-use Rattle.write.specs.Steps.{holds, place, stepAt}
+use Rattle.write.specs.Steps.{holds, stepAt}
 use Rattle.write.specs.Begins.{appendOn, openOn}
 use Rattle.write.specs.Machine.{callOn, callRule}
 use Rattle.write.proofs

@@ -20,7 +20,7 @@ use Rattle.read.specs.declared.Handle.the-variants.{Drop, Enter, GoOn, Release,
 use Rattle.read.specs.declared.Made.{Made}
 use Rattle.read.specs.declared.Reply.{Reply}
 use Rattle.read.specs.declared.Verdict.the-variants.{Admitted}
-use Rattle.read.specs.Machine.{slotCount, noSlot, anyOpen, underway, judged}
+use Rattle.read.specs.Machine.{slotCount, noSlot, anyOpen, underway, judged, place}
 use Rattle.read.specs.Handles.{smallest, handleSigns, loaded, wentOn, handled, handleOn}
 use Rattle.read.specs.Calls.{Lent, lent, slotAt, withSlot, refusal, handleReply, createReply, createSigns, firstFree}
 use Rattle.write.specs.declared.Moved.{Moved}
@@ -28,11 +28,12 @@ use Rattle.write.specs.declared.Opening.{Opening}
 use Rattle.write.specs.declared.Opening.the-variants as opening
 use Rattle.write.specs.declared.Call.{Call}
 use Rattle.write.specs.declared.Call.the-variants.{Create, On, Append, Open, Step, Run}
-use Rattle.write.specs.Steps.{refused, stepAt, place}
+use Rattle.write.specs.Steps.{refused, stepAt}
 use Rattle.write.specs.Begins.{stepSigns, appendOn, openOn, opened}
 use Rattle.write.specs.Runs.{snapAt, lift, stepOn, enough, runOn}
 use Rattle.write.specs.Machine.{going, callOn, callRule}
-use Rattle.write.proofs.Verdicts.{judging, refused-mild, step-underway}
+use Rattle.read.proofs.Verdicts.{refused-mild}
+use Rattle.write.proofs.Verdicts.{judging, step-underway}
 use Rattle.write.proofs.Cases.{by, below, append-cases, open-cases, run-keeps}
 use Rattle.write.proofs.Left.{Stepped, done, held, declined, step-stepped}
 use Rattle.read.proofs.Cases.{stateOf}
@@ -88,7 +89,7 @@ module _ (c : Control) (s : Slot) where
   unfolding handleOn
   kind-handle own h l r =
       let signs = handleSigns c own s h in
-      judging (KindMade s) (smallest signs) (λ v. kind-handled h l r) (λ a v. kept a (refused-mild signs a v .0))
+      judging (KindMade s) (smallest signs) (λ v. kind-handled h l r) (λ a v. kept a (refused-mild signs refl a v .0))
 
 module _ (c : Control) (s : Slot) (e : ℕ) where
   kind-opened : (o : Opening) → KindMoved c s e (opened o c s e)
@@ -141,7 +142,7 @@ module _ (st : State) (l r g : List ℕ) where
   kind-create : (i : ℕ) → KindCall 13 st l r g (lent (createReply i st) l r g)
   kind-create i =
       let signs = createSigns (st .control) i in
-      judging (λ (a : Reply). KindCall 13 st l r g (lent a l r g)) (smallest signs) (λ v. made refl) (λ a v. kept a (refused-mild signs a v .0))
+      judging (λ (a : Reply). KindCall 13 st l r g (lent a l r g)) (smallest signs) (λ v. made refl) (λ a v. kept a (refused-mild signs refl a v .0))
 
   kind-on : (i : ℕ) (h : Handle) → KindCall 13 st l r g (lent (handleReply i h l r st) l r g)
   kind-on i h =
@@ -171,7 +172,7 @@ module _ (st : State) (l r g : List ℕ) where
       KindCall b st l r g (going column rule st l r g)
   kind-going b column rule f =
       let signs = stepSigns column (st .control) in
-      judging (KindCall b st l r g) (smallest signs) f (λ a v. kept a (refused-mild signs a v .0))
+      judging (KindCall b st l r g) (smallest signs) f (λ a v. kept a (refused-mild signs refl a v .0))
 
 -- ---- run
 

@@ -19,10 +19,10 @@ use Rattle.read.specs.declared.Job.the-variants.{Publish, Try, TakeFirst, TakeS
 use Rattle.read.specs.declared.Control.{Control}
 use Rattle.read.specs.declared.State.{State}
 use Rattle.read.specs.declared.Reply.{Reply}
-use Rattle.read.specs.Machine.{slotCount, noSlot, underway}
+use Rattle.read.specs.Machine.{slotCount, noSlot, underway, place}
 use Rattle.read.specs.Calls.{Lent, lent, slotAt}
 use Rattle.write.specs.declared.Moved.{Moved}
-use Rattle.write.specs.Steps.{at, polled, polling, lastPolling, holds, moved, refused, stopped, stepAt, place}
+use Rattle.write.specs.Steps.{at, polled, polling, lastPolling, holds, moved, refused, stopped, stepAt}
 use Rattle.write.specs.Scans.{polls, scanningAt, stopAnswer, stopControl, haltAnswer, halted}
 use Rattle.write.specs.Runs.{snapAt, lift, stepOn, afterStep, ranOut, enough, runWhile, runOn}
 use Rattle.write.proofs.Count.{left, steps}

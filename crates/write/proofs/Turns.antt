@@ -13,11 +13,11 @@ use Rattle.read.specs.declared.Phase.the-variants.{Idle, Begin, Poll, Copy, Dra
 use Rattle.read.specs.declared.Control.{Control}
 use Rattle.read.specs.declared.State.{State}
 use Rattle.read.specs.declared.Reply.{Reply}
-use Rattle.read.specs.Machine.{slotTotal, slotCount, noSlot, underway}
+use Rattle.read.specs.Machine.{slotTotal, slotCount, noSlot, underway, place}
 use Rattle.read.specs.Calls.{Lent, lent, slotAt}
 use Rattle.read.proofs.Cases.{stateOf, getD-within}
 use Rattle.write.specs.declared.Moved.{Moved}
-use Rattle.write.specs.Steps.{holds, stepAt, place}
+use Rattle.write.specs.Steps.{holds, stepAt}
 use Rattle.write.specs.Scans.{polls, haltAnswer, halted}
 use Rattle.write.specs.Runs.{snapAt, putBack, lift, stepOn}
 use Rattle.write.proofs.Control.{Placed, Whole}

@@ -19,14 +19,14 @@ use Rattle.read.specs.declared.Control.{Control}
 use Rattle.read.specs.declared.Verdict.the-variants.{Admitted, Refused}
 use Rattle.read.specs.declared.State.{State}
 use Rattle.read.specs.declared.Reply.{Reply}
-use Rattle.read.specs.Machine.{standing, holding, freshControl, openOn, withReading, slotCount, logRoom, logWords, noGuards, noSlot, newSlot, underway, nulls, judged, fresh, row}
+use Rattle.read.specs.Machine.{standing, holding, freshControl, openOn, withReading, slotCount, logRoom, logWords, noGuards, noSlot, newSlot, underway, nulls, judged, fresh, row, place}
 use Rattle.read.specs.Handles.{smallest, freed, copyOf, bit}
 use Rattle.read.specs.Calls.{Lent, lent, slotAt, refusal}
 use Rattle.write.specs.declared.Moved.{Moved}
 use Rattle.write.specs.declared.Opening.{Opening}
 use Rattle.write.specs.declared.Opening.the-variants as opening
 use Rattle.write.specs.declared.Call.the-variants as call
-use Rattle.write.specs.Steps.{at, withLog, swappedOver, draining, polling, beginning, lastPolling, holds, moved, refused, stopped, ofLeft, ofRight, operated, logApplied, over, unlogged, stepAt, place}
+use Rattle.write.specs.Steps.{at, withLog, swappedOver, draining, polling, beginning, lastPolling, holds, moved, refused, stopped, ofLeft, ofRight, operated, logApplied, over, unlogged, stepAt}
 use Rattle.write.specs.Begins.{writerSigns, madeAtOnce, appendFirst, appended, appendOn, columnOf, begun, value, opened}
 use Rattle.write.specs.Runs.{snapAt, putBack, lift, stepOn, enough, runWhile}
 use Rattle.write.specs.Machine.{going, callRule}

@@ -1,7 +1,7 @@
 -- The writer's calls that are made at once: append, and the beginnings of publish, try, flush and take. They look at slot 0.
 use Prim.Native.Nat.{ℕ, _+_, _*_, _%_, _^_}
 use mathlib.Core.Bool.{Bool, true, false, not, _&&_, _||_}
-use mathlib.Core.List.{List}
+use mathlib.Core.List.{List, [], _∷_}
 use lib.ListN.{set}
 use lib.Dec.{eqb, ltb, leb}
 use Rattle.table.specs.Copy.{lawful}
@@ -12,10 +12,9 @@ use Rattle.read.specs.declared.Phase.the-variants.{Begin, Null}
 use Rattle.read.specs.declared.Job.the-variants.{Publish, Try, TakeFirst}
 use Rattle.read.specs.declared.Control.{Control}
 use Rattle.read.specs.declared.Verdict.the-variants.{Admitted, Refused}
-use Rattle.read.specs.declared.Signs.{Signs}
 use Rattle.read.specs.Machine.{standing, logRoom, isGone, isDue, anyOpen}
 use Rattle.read.specs.Admission.{entry}
-use Rattle.read.specs.Handles.{smallest, withDue}
+use Rattle.read.specs.Handles.{Sign, sign, smallest, withDue}
 use Rattle.read.specs.Calls.{Lent, lent}
 use Rattle.write.specs.declared.Moved.{Moved}
 use Rattle.write.specs.declared.Opening.{Opening}
@@ -25,36 +24,18 @@ use Rattle.write.specs.Steps.{withLog, beginning, polling, ofLeft, ofRig
 -- ---- what speaks against a writer's call
 
 -- by the call's column in the table of admissions: gone, not now, a step due of slot 0, its guards open
-abbrev pub writerSigns : ℕ → Bool → Bool → Control → Slot → Signs
+abbrev pub writerSigns : ℕ → Bool → Bool → Control → Slot → List Sign
 writerSigns column unlawful full c s =
-    record {
-      gone = isGone (c .phase);
-      «no_slot» = false;
-      operation = unlawful;
-      «not_now» = eqb (entry (c .phase) column) 6 || isDue (s .due);
-      locked = false;
-      «guards_open» = anyOpen (s .guards);
-      «no_guard» = false;
-      «four_guards» = false;
-      «log_full» = full;
-      «slots_full» = false;
-    }
+    sign answer.Gone (isGone (c .phase))
+    ∷ sign answer.Operation unlawful
+    ∷ sign answer.NotNow (eqb (entry (c .phase) column) 6 || isDue (s .due))
+    ∷ sign answer.GuardsOpen (anyOpen (s .guards))
+    ∷ sign answer.LogFull full
+    ∷ []
 
 -- step and run look at no slot to be admitted
-abbrev pub stepSigns : ℕ → Control → Signs
-stepSigns column c =
-    record {
-      gone = isGone (c .phase);
-      «no_slot» = false;
-      operation = false;
-      «not_now» = eqb (entry (c .phase) column) 6;
-      locked = false;
-      «guards_open» = false;
-      «no_guard» = false;
-      «four_guards» = false;
-      «log_full» = false;
-      «slots_full» = false;
-    }
+abbrev pub stepSigns : ℕ → Control → List Sign
+stepSigns column c = sign answer.Gone (isGone (c .phase)) ∷ sign answer.NotNow (eqb (entry (c .phase) column) 6) ∷ []
 
 -- ---- append
 

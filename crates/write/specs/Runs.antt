@@ -9,10 +9,10 @@ use Rattle.read.specs.declared.Slot.{Slot}
 use Rattle.read.specs.declared.Control.{Control}
 use Rattle.read.specs.declared.State.{State}
 use Rattle.read.specs.declared.Reply.{Reply}
-use Rattle.read.specs.Machine.{underway}
+use Rattle.read.specs.Machine.{underway, place}
 use Rattle.read.specs.Calls.{Lent, lent, slotAt}
 use Rattle.write.specs.declared.Moved.{Moved}
-use Rattle.write.specs.Steps.{stepAt, place}
+use Rattle.write.specs.Steps.{stepAt}
 
 -- ---- a move at one slot, put back into the state that it was made from
 

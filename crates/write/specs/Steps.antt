@@ -173,20 +173,3 @@ stepAt (LastPoll k) c s e l r g = lent (lastPollMove (holds s e) k c s e) l r g
 stepAt Finish c s e l r g =
     lent (moved (at Gone (withLog 0 0 c)) (freed s) e) (ofLeft (c .right) zeros l) (ofRight (c .right) zeros r) (zeros g)
 stepAt Gone c s e l r g = lent (refused answer.Gone c s e) l r g
-
--- the slot that a step looks at
-abbrev pub place : Phase → ℕ
-place Idle = 0
-place Begin = 0
-place (Poll k) = k
-place Copy = 0
-place Drain = 0
-place (Keep k) = 0
-place Swap = 0
-place (Snap k) = k
-place Null = 0
-place Lock = 0
-place (LastSnap k) = k
-place (LastPoll k) = k
-place Finish = 0
-place Gone = 0

@@ -8,7 +8,6 @@ use read::Control;
 use read::Job;
 use read::LOG_ROOM;
 use read::Phase;
-use read::Signs;
 use read::Slot;
 use read::Verdict;
 use read::admission;
@@ -21,7 +20,7 @@ ghost use Prim.Native.Nat.{_+_, _%_, _^_};
 ghost use lib.Dec.{ltb, leb};
 ghost use Rattle.table.specs.Copy.{lawful};
 ghost use Rattle.read.specs.Machine.{standing, isGone, logRoom};
-ghost use Rattle.read.specs.Handles.{withDue};
+ghost use Rattle.read.specs.Handles.{smallest, withDue};
 ghost use Rattle.read.specs.Calls.{lent};
 ghost use Rattle.write.specs.Steps.{polling, beginning};
 ghost use Rattle.write.specs.Begins.{writerSigns, stepSigns, appended as appendedRule, appendOn, columnOf, begun as begunRule, value as valueRule, taking as takingRule, opened as openedRule, openOn};
@@ -37,48 +36,45 @@ fn is_gone(p: Phase) -> bool
     admission::row(p) == GONE
 }
 
-fn writer_signs(column: usize, unlawful: bool, full: bool, c: Control, s: Slot) -> Signs
-    ensures { λ r. ⌜ r ≡ writerSigns column unlawful full c s ⌝ }
+fn writer_verdict(column: usize, unlawful: bool, full: bool, c: Control, s: Slot) -> Verdict
+    ensures { λ r. ⌜ r ≡ smallest (writerSigns column unlawful full c s) ⌝ }
 {
     let p = c.phase;
     let d = s.due;
     let g = s.guards;
-    let gone = is_gone(p);
-    let late = judge::either(admission::entry(p, column) == 6, guards::is_due(d));
-    let inside = guards::any_open(g);
-    Signs {
-        gone: gone,
-        no_slot: false,
-        operation: unlawful,
-        not_now: late,
-        locked: false,
-        guards_open: inside,
-        no_guard: false,
-        four_guards: false,
-        log_full: full,
-        slots_full: false,
+    if is_gone(p) {
+        return Verdict::Refused(Answer::Gone);
     }
+    if unlawful {
+        return Verdict::Refused(Answer::Operation);
+    }
+    if judge::either(
+        admission::entry(p, column) == admission::NOT_NOW,
+        guards::is_due(d),
+    ) {
+        return Verdict::Refused(Answer::NotNow);
+    }
+    if guards::any_open(g) {
+        return Verdict::Refused(Answer::GuardsOpen);
+    }
+    if full {
+        return Verdict::Refused(Answer::LogFull);
+    }
+    Verdict::Admitted
 }
 
 // Step and run look at no slot to be admitted.
-pub(crate) fn step_signs(column: usize, c: Control) -> Signs
-    ensures { λ r. ⌜ r ≡ stepSigns column c ⌝ }
+pub(crate) fn step_verdict(column: usize, c: Control) -> Verdict
+    ensures { λ r. ⌜ r ≡ smallest (stepSigns column c) ⌝ }
 {
     let p = c.phase;
-    let gone = is_gone(p);
-    let e = admission::entry(p, column);
-    Signs {
-        gone: gone,
-        no_slot: false,
-        operation: false,
-        not_now: e == 6,
-        locked: false,
-        guards_open: false,
-        no_guard: false,
-        four_guards: false,
-        log_full: false,
-        slots_full: false,
+    if is_gone(p) {
+        return Verdict::Refused(Answer::Gone);
     }
+    if admission::entry(p, column) == admission::NOT_NOW {
+        return Verdict::Refused(Answer::NotNow);
+    }
+    Verdict::Admitted
 }
 
 // ---- append
@@ -155,7 +151,7 @@ pub fn append_on(
     ensures { λ r. ⌜ lent r (now (left .exit)) (now (right .exit)) (now (log .exit)) ≡ appendOn kind key amount c s e (now (left .entry)) (now (right .entry)) (now (log .entry)) ⌝ }
 {
     let unlawful = !table::lawful(kind, key, amount);
-    let v = judge::smallest(writer_signs(7, unlawful, is_full(c), c, s));
+    let v = writer_verdict(7, unlawful, is_full(c), c, s);
     match v {
         Verdict::Admitted => appended(kind, key, amount, c, s, e, left, right, log),
         Verdict::Refused(a) => steps::refused(a, c, s, e),
@@ -211,7 +207,7 @@ fn opened(o: Opening, c: Control, s: Slot, e: u64) -> Moved
 pub fn open_on(o: Opening, c: Control, s: Slot, e: u64) -> Moved
     ensures { λ r. ⌜ r ≡ openOn o c s e ⌝ }
 {
-    let v = judge::smallest(writer_signs(column_of(o), false, false, c, s));
+    let v = writer_verdict(column_of(o), false, false, c, s);
     match v {
         Verdict::Admitted => opened(o, c, s, e),
         Verdict::Refused(a) => steps::refused(a, c, s, e),

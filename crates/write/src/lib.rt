@@ -180,7 +180,7 @@ fn admitted(run: bool, st: State, left: &mut [u64], right: &mut [u64], log: &mut
     ensures { λ r. ⌜ lent r (now (left .exit)) (now (right .exit)) (now (log .exit)) ≡ going (goingColumn run) (goingRule run) st (now (left .entry)) (now (right .entry)) (now (log .entry)) ⌝ }
 {
     let c = st.control;
-    let v = judge::smallest(begins::step_signs(column(run), c));
+    let v = begins::step_verdict(column(run), c);
     match v {
         Verdict::Admitted => runs::whole(run, st, left, right, log),
         Verdict::Refused(a) => refusal(a, st),

@@ -10,7 +10,8 @@ use read::guards;
 use table::Answer;
 ghost use mathlib.Core.Path.{_≡_};
 ghost use Rattle.read.specs.Calls.{lent};
-ghost use Rattle.write.specs.Steps.{at, holds as holdsRule, seen as seenRule, place as placeRule, moved as movedRule, refused as refusedRule, stopped as stoppedRule, pollMove, lastPollMove, stepAt};
+ghost use Rattle.read.specs.Machine.{place as placeRule};
+ghost use Rattle.write.specs.Steps.{at, holds as holdsRule, seen as seenRule, moved as movedRule, refused as refusedRule, stopped as stoppedRule, pollMove, lastPollMove, stepAt};
 
 // A poll is held: the slot is in use, and its epoch is still the odd one of its snapshot.
 pub fn holds(s: Slot, e: u64) -> bool

@@ -19,19 +19,20 @@ use Rattle.read.specs.declared.Control.{Control}
 use Rattle.read.specs.declared.State.{State}
 use Rattle.read.specs.declared.Reply.{Reply}
 use Rattle.read.specs.declared.Verdict.the-variants.{Admitted}
-use Rattle.read.specs.Machine.{slotCount, noSlot, underway}
+use Rattle.read.specs.Machine.{slotCount, noSlot, underway, place}
 use Rattle.read.specs.Handles.{smallest, freed, bit}
 use Rattle.read.specs.Calls.{Lent, lent, slotAt}
+use Rattle.read.proofs.Verdicts.{refused-mild}
 use Rattle.write.specs.declared.Moved.{Moved}
 use Rattle.write.specs.declared.Call.the-variants.{Step}
-use Rattle.write.specs.Steps.{holds, seen, place, pollMove, lastPollMove, stepAt}
+use Rattle.write.specs.Steps.{holds, seen, pollMove, lastPollMove, stepAt}
 use Rattle.write.specs.Begins.{stepSigns}
 use Rattle.write.specs.Scans.{polls}
 use Rattle.write.specs.Runs.{snapAt, lift, stepOn}
 use Rattle.write.specs.Machine.{callOn}
 use Rattle.write.specs.World.{World, worldOf, reply}
 use Rattle.write.proofs.Cases.{by}
-use Rattle.write.proofs.Verdicts.{judging, refused-mild, step-underway}
+use Rattle.write.proofs.Verdicts.{judging, step-underway}
 use Rattle.write.proofs.Control.{Fits, fits, some-slot, whole-step}
 use Rattle.write.proofs.Left.{outcome, step-answer, Stepped, done, held, declined, declinedMove, step-stepped, step-value}
 use Rattle.demands.specs.Account.{Reader, Account, Move, null, withAt, ofReader, readsEpoch, dropped, withPlan, advanced, noted}
@@ -293,5 +294,5 @@ module _ {w : World} {a : Account} (tie : Tie w a) where
       (λ v.
       let u = step-underway c v in
       advanced-right u v _ refl (step-stepped c (slot (c .phase)) (snapOf (c .phase)) (w .left) (w .right) (w .log) (c .phase) u))
-      (λ x v. mild-right tie Step refl x (refused-mild (stepSigns 12 c) x v)
+      (λ x v. mild-right tie Step refl x (refused-mild (stepSigns 12 c) refl x v)
       (wanted-step a c (tie .steers) (whole tie) ∙ ap (λ y. answerNo y (least (stops a c (tie .steers) (whole tie) (meetsReader a) (a .trial)))) v) st refl)

@@ -46,7 +46,7 @@ module _ {w : World} {a : Account} (h : Tie w a) where
       let s = slotAt (w .state) 0 in
       let signs = writerSigns (columnOf o) false false c s in
       open-idle o c s
-      (admitted-zero (smallest signs) signs 0 refl
+      (admitted-zero (smallest signs) signs refl 0 refl
       (sym (wanted-open a c (h .steers) (whole h) s (snapAt (w .state) 0) (h .reads 0) o) ∙ z))
 
   -- ---- progress

@@ -17,11 +17,11 @@ use Rattle.read.specs.declared.Job.{Job}
 use Rattle.read.specs.declared.Job.the-variants.{Publish, Try, TakeFirst, TakeSecond}
 use Rattle.read.specs.declared.Control.{Control}
 use Rattle.read.specs.declared.Reply.{Reply}
-use Rattle.read.specs.Machine.{slotCount, isOpen, underway, isGone}
+use Rattle.read.specs.Machine.{slotCount, isOpen, underway, isGone, place}
 use Rattle.read.specs.Handles.{copyOf, freed}
 use Rattle.read.specs.Calls.{Lent, lent, slotAt}
 use Rattle.write.specs.declared.Moved.{Moved}
-use Rattle.write.specs.Steps.{holds, seen, snapping, swappedOver, logApplied, over, unlogged, moved, stopped, stepAt, place}
+use Rattle.write.specs.Steps.{holds, seen, snapping, swappedOver, logApplied, over, unlogged, moved, stopped, stepAt}
 use Rattle.write.specs.Runs.{snapAt, lift, stepOn}
 use Rattle.write.specs.World.{World, worldOf, answerOf}
 use Rattle.write.proofs.Cases.{by}

@@ -1,16 +1,12 @@
--- By what `smallest` says of the signs; where it admits, the slot is in range.
-use mathlib.Core.Path.{sym, ap, _∙_}
+-- By the verdict; where it admits, the slot is in range.
+use mathlib.Core.Path.{sym, _∙_}
 use borrow.Author.Needs.{needs}
-use Rattle.read.specs.Handles.{smallest}
 use Rattle.read.proofs.Cases.{create-refused, create-made, create-room}
 use Rattle.read.proofs.create_reply.Statement.{statement}
 use Rattle.read.proofs.create_reply.Tie as tie
 
-create-signs-requires : tie.Need-create-signs-requires
-create-signs-requires c κs = search needs
-
-smallest-requires : tie.Need-smallest-requires
-smallest-requires c κs = search needs
+create-verdict-requires : tie.Need-create-verdict-requires
+create-verdict-requires c κs = search needs
 
 enum-known-v : tie.Need-enum-known-v
 enum-known-v c = search needs
@@ -26,25 +22,24 @@ new-slot-requires c κs = search needs
 
 with-slot-requires : tie.Need-with-slot-requires
 with-slot-requires c κs =
-    let a = c .before .before .before .before .before .before .args in
-    create-room (a .i) (a .st) (sym (c .before .before .before .smallest .ensures ∙ ap smallest (c .before .before .before .before .create-signs .ensures)) ∙ c .before .enum-told .given .1)
+    let a = c .before .before .before .before .before .args in
+    create-room (a .i) (a .st) (sym (c .before .before .before .create-verdict .ensures) ∙ c .before .enum-told .given .1)
 
 returns : tie.Need-returns
 returns c =
-    let a = c .before .before .before .before .before .before .before .args in
-    c .refusal .ensures ∙ sym (create-refused (a .i) (a .st) _ (sym (c .before .before .before .before .smallest .ensures ∙ ap smallest (c .before .before .before .before .before .create-signs .ensures)) ∙ c .before .before .v .given .1))
+    let a = c .before .before .before .before .before .before .args in
+    c .refusal .ensures ∙ sym (create-refused (a .i) (a .st) _ (sym (c .before .before .before .before .create-verdict .ensures) ∙ c .before .before .v .given .1))
 
 returns-2 : tie.Need-returns-2
 returns-2 c =
-    let a = c .before .before .before .before .before .before .before .args in
-    rw (c .with-slot .ensures, c .before .new-slot .ensures) (sym (create-made (a .i) (a .st) (sym (c .before .before .before .before .smallest .ensures ∙ ap smallest (c .before .before .before .before .before .create-signs .ensures)) ∙ c .before .before .enum-told .given .1)))
+    let a = c .before .before .before .before .before .before .args in
+    rw (c .with-slot .ensures, c .before .new-slot .ensures) (sym (create-made (a .i) (a .st) (sym (c .before .before .before .before .create-verdict .ensures) ∙ c .before .before .enum-told .given .1)))
 
 pub create-reply-spec : {M : Type 1} → statement M
 create-reply-spec =
     tie.close
     (tie.spec
-    create-signs-requires
-    smallest-requires
+    create-verdict-requires
     enum-known-v
     refusal-requires
     enum-told

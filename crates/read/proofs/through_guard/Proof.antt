@@ -27,11 +27,8 @@ returns c =
 slot-at-requires : tie.Need-slot-at-requires
 slot-at-requires c κs = search needs
 
-signs-requires : tie.Need-signs-requires
-signs-requires c κs = search needs
-
-smallest-requires : tie.Need-smallest-requires
-smallest-requires c κs = search needs
+verdict-requires : tie.Need-verdict-requires
+verdict-requires c κs = search needs
 
 enum-told : tie.Need-enum-told
 enum-told c = search needs
@@ -54,14 +51,14 @@ guarded-copy-requires c κs = search needs
 returns-2 : tie.Need-returns-2
 unfolding slotCount
 returns-2 c =
-    let a = c .before .before .before .before .before .before .before .before .before .before .args in
-    sym (guard-refused (a .slot) (a .guard) (a .left .now) (a .right .now) (a .st) (c .before .before .before .before .before .before .before .if1 .left) _ (sym (c .before .before .before .smallest .ensures ∙ ap smallest (c .before .before .before .before .signs .ensures ∙ ap (λ s. handleSigns (a .st .control) (eqb (a .slot) 0) s (LookUp (a .guard) 0)) (c .before .before .before .before .before .slot-at .ensures))) ∙ c .before .enum-told .given .1))
+    let a = c .before .before .before .before .before .before .before .before .before .args in
+    sym (guard-refused (a .slot) (a .guard) (a .left .now) (a .right .now) (a .st) (c .before .before .before .before .before .before .if1 .left) _ (sym (c .before .before .before .verdict .ensures ∙ ap (λ s. smallest (handleSigns (a .st .control) (eqb (a .slot) 0) s (LookUp (a .guard) 0))) (c .before .before .before .before .slot-at .ensures)) ∙ c .before .enum-told .given .1))
 
 returns-3 : tie.Need-returns-3
 unfolding slotCount
 returns-3 c =
-    let a = c .before .before .before .before .before .before .before .before .before .before .before .args in
-    c .guarded-copy .ensures ∙ ap (λ s. guardedCopy (s .guards) (a .guard) (a .left .now) (a .right .now)) (c .before .before .before .before .before .before .slot-at .ensures) ∙ sym (guard-shown (a .slot) (a .guard) (a .left .now) (a .right .now) (a .st) (c .before .before .before .before .before .before .before .before .if1 .left) (sym (c .before .before .before .before .smallest .ensures ∙ ap smallest (c .before .before .before .before .before .signs .ensures ∙ ap (λ s. handleSigns (a .st .control) (eqb (a .slot) 0) s (LookUp (a .guard) 0)) (c .before .before .before .before .before .before .slot-at .ensures))) ∙ c .before .before .enum-told2 .given .1))
+    let a = c .before .before .before .before .before .before .before .before .before .before .args in
+    c .guarded-copy .ensures ∙ ap (λ s. guardedCopy (s .guards) (a .guard) (a .left .now) (a .right .now)) (c .before .before .before .before .before .slot-at .ensures) ∙ sym (guard-shown (a .slot) (a .guard) (a .left .now) (a .right .now) (a .st) (c .before .before .before .before .before .before .before .if1 .left) (sym (c .before .before .before .before .verdict .ensures ∙ ap (λ s. smallest (handleSigns (a .st .control) (eqb (a .slot) 0) s (LookUp (a .guard) 0))) (c .before .before .before .before .before .slot-at .ensures)) ∙ c .before .before .enum-told2 .given .1))
 
 pub through-guard-spec : {M : Type 1} → statement M
 through-guard-spec =
@@ -72,8 +69,7 @@ through-guard-spec =
     part-result-end
     returns
     slot-at-requires
-    signs-requires
-    smallest-requires
+    verdict-requires
     enum-told
     sub-result-2
     part-result-start-2

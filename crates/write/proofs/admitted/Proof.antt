@@ -7,15 +7,13 @@ use Rattle.write.specs.Machine.{goingColumn, goingRule}
 use Rattle.write.proofs.Callings.{going-refused, going-admitted}
 use Rattle.write.proofs.admitted.Statement.{statement}
 use Rattle.write.proofs.admitted.Tie as tie
+use Rattle.read.specs.Handles.{smallest}
 
 column-requires : tie.Need-column-requires
 column-requires c κs = search needs
 
-step-signs-requires : tie.Need-step-signs-requires
-step-signs-requires c κs = search needs
-
-smallest-requires : tie.Need-smallest-requires
-smallest-requires c κs = search needs
+step-verdict-requires : tie.Need-step-verdict-requires
+step-verdict-requires c κs = search needs
 
 enum-told : tie.Need-enum-told
 enum-told c = search needs
@@ -41,24 +39,23 @@ same-length-3 c = search needs
 returns : tie.Need-returns
 returns c =
     let t = c .before .before .before .before .before .before .before .before .before .before .before .before in
-    let a = t .before .before .before .before .before .before .before .args in
-    let signs = t .before .step-signs .ensures ∙ ap (λ (k : ℕ). stepSigns k (a .st .control)) (t .before .before .column .ensures) in
-    going-admitted (a .st) (a .left .now) (a .right .now) (a .log .now) (goingRule (a .run)) (goingColumn (a .run)) signs (t .smallest .ensures) (c .before .before .before .before .before .before .before .before .before .before .enum-told .given .1) (c .before .before .before .before .before .before .whole .ensures)
+    let a = t .before .before .before .before .before .before .args in
+    let verdict = t .step-verdict .ensures ∙ ap (λ (k : ℕ). smallest (stepSigns k (a .st .control))) (t .before .column .ensures) in
+    going-admitted (a .st) (a .left .now) (a .right .now) (a .log .now) (goingRule (a .run)) (goingColumn (a .run)) verdict (c .before .before .before .before .before .before .before .before .before .before .enum-told .given .1) (c .before .before .before .before .before .before .whole .ensures)
 
 returns-2 : tie.Need-returns-2
 returns-2 c =
     let t = c .before .before .before .before in
-    let a = t .before .before .before .before .before .before .before .args in
-    let signs = t .before .step-signs .ensures ∙ ap (λ (k : ℕ). stepSigns k (a .st .control)) (t .before .before .column .ensures) in
-    going-refused (a .st) (a .left .now) (a .right .now) (a .log .now) (goingRule (a .run)) (goingColumn (a .run)) signs (t .smallest .ensures) (c .before .before .v .given .1) (c .refusal .ensures)
+    let a = t .before .before .before .before .before .before .args in
+    let verdict = t .step-verdict .ensures ∙ ap (λ (k : ℕ). smallest (stepSigns k (a .st .control))) (t .before .column .ensures) in
+    going-refused (a .st) (a .left .now) (a .right .now) (a .log .now) (goingRule (a .run)) (goingColumn (a .run)) verdict (c .before .before .v .given .1) (c .refusal .ensures)
 
 pub admitted-spec : {M : Type 1} → statement M
 admitted-spec =
     tie.close
     (tie.spec
     column-requires
-    step-signs-requires
-    smallest-requires
+    step-verdict-requires
     enum-told
     whole-requires
     enum-known-v

@@ -1,16 +1,12 @@
--- By what `smallest` says of the signs.
-use mathlib.Core.Path.{sym, ap, _∙_}
+-- By the verdict.
+use mathlib.Core.Path.{sym, _∙_}
 use borrow.Author.Needs.{needs}
-use Rattle.read.specs.Handles.{smallest}
 use Rattle.read.proofs.Cases.{handle-refused, handle-made}
 use Rattle.read.proofs.handles.handle.Statement.{statement}
 use Rattle.read.proofs.handles.handle.Tie as tie
 
-signs-requires : tie.Need-signs-requires
-signs-requires c κs = search needs
-
-smallest-requires : tie.Need-smallest-requires
-smallest-requires c κs = search needs
+verdict-requires : tie.Need-verdict-requires
+verdict-requires c κs = search needs
 
 enum-known-v : tie.Need-enum-known-v
 enum-known-v c = search needs
@@ -23,20 +19,19 @@ act-requires c κs = search needs
 
 returns : tie.Need-returns
 returns c =
-    let a = c .before .before .before .before .before .before .before .args in
-    sym (handle-refused (a .c) (a .own) (a .s) (a .h) (a .left .now) (a .right .now) _ (sym (c .before .before .before .smallest .ensures ∙ ap smallest (c .before .before .before .before .signs .ensures)) ∙ c .before .v .given .1))
+    let a = c .before .before .before .before .before .before .args in
+    sym (handle-refused (a .c) (a .own) (a .s) (a .h) (a .left .now) (a .right .now) _ (sym (c .before .before .before .verdict .ensures) ∙ c .before .v .given .1))
 
 returns-2 : tie.Need-returns-2
 returns-2 c =
-    let a = c .before .before .before .before .before .before .before .args in
-    c .act .ensures ∙ sym (handle-made (a .c) (a .own) (a .s) (a .h) (a .left .now) (a .right .now) (sym (c .before .before .before .smallest .ensures ∙ ap smallest (c .before .before .before .before .signs .ensures)) ∙ c .before .enum-told .given .1))
+    let a = c .before .before .before .before .before .before .args in
+    c .act .ensures ∙ sym (handle-made (a .c) (a .own) (a .s) (a .h) (a .left .now) (a .right .now) (sym (c .before .before .before .verdict .ensures) ∙ c .before .enum-told .given .1))
 
 pub handle-spec : {M : Type 1} → statement M
 handle-spec =
     tie.close
     (tie.spec
-    signs-requires
-    smallest-requires
+    verdict-requires
     enum-known-v
     enum-told
     act-requires

@@ -10,11 +10,8 @@ lawful-requires c κs = search needs
 is-full-requires : tie.Need-is-full-requires
 is-full-requires c κs = search needs
 
-writer-signs-requires : tie.Need-writer-signs-requires
-writer-signs-requires c κs = search needs
-
-smallest-requires : tie.Need-smallest-requires
-smallest-requires c κs = search needs
+writer-verdict-requires : tie.Need-writer-verdict-requires
+writer-verdict-requires c κs = search needs
 
 enum-told : tie.Need-enum-told
 enum-told c = search needs
@@ -39,13 +36,13 @@ same-length-3 c = search needs
 
 returns : tie.Need-returns
 returns c =
-    let a = c .before .before .before .before .before .before .before .before .before .before .before .before .before .before .before .before .before .before .before .args in
-    append-admitted (a .kind) (a .key) (a .amount) (a .c) (a .s) (a .e) (a .left .now) (a .right .now) (a .log .now) (c .before .before .before .before .before .before .before .before .before .before .before .before .before .before .before .lawful .ensures) (c .before .before .before .before .before .before .before .before .before .before .before .before .before .before .is-full .ensures) (c .before .before .before .before .before .before .before .before .before .before .before .before .before .writer-signs .ensures) (c .before .before .before .before .before .before .before .before .before .before .before .before .smallest .ensures) (c .before .before .before .before .before .before .before .before .before .before .enum-told .given .1) (c .before .before .before .before .before .before .appended .ensures)
+    let a = c .before .before .before .before .before .before .before .before .before .before .before .before .before .before .before .before .before .before .args in
+    append-admitted (a .kind) (a .key) (a .amount) (a .c) (a .s) (a .e) (a .left .now) (a .right .now) (a .log .now) (c .before .before .before .before .before .before .before .before .before .before .before .before .before .before .lawful .ensures) (c .before .before .before .before .before .before .before .before .before .before .before .before .before .is-full .ensures) (c .before .before .before .before .before .before .before .before .before .before .before .before .writer-verdict .ensures) (c .before .before .before .before .before .before .before .before .before .before .enum-told .given .1) (c .before .before .before .before .before .before .appended .ensures)
 
 returns-2 : tie.Need-returns-2
 returns-2 c =
-    let a = c .before .before .before .before .before .before .before .before .before .before .before .args in
-    append-refused (a .kind) (a .key) (a .amount) (a .c) (a .s) (a .e) (a .left .now) (a .right .now) (a .log .now) (c .before .before .before .before .before .before .before .lawful .ensures) (c .before .before .before .before .before .before .is-full .ensures) (c .before .before .before .before .before .writer-signs .ensures) (c .before .before .before .before .smallest .ensures) (c .before .before .v .given .1) (c .refused .ensures)
+    let a = c .before .before .before .before .before .before .before .before .before .before .args in
+    append-refused (a .kind) (a .key) (a .amount) (a .c) (a .s) (a .e) (a .left .now) (a .right .now) (a .log .now) (c .before .before .before .before .before .before .lawful .ensures) (c .before .before .before .before .before .is-full .ensures) (c .before .before .before .before .writer-verdict .ensures) (c .before .before .v .given .1) (c .refused .ensures)
 
 pub append-on-spec : {M : Type 1} → statement M
 append-on-spec =
@@ -53,8 +50,7 @@ append-on-spec =
     (tie.spec
     lawful-requires
     is-full-requires
-    writer-signs-requires
-    smallest-requires
+    writer-verdict-requires
     enum-told
     appended-requires
     enum-known-v

@@ -7,11 +7,8 @@ use Rattle.write.proofs.begins.open_on.Tie as tie
 column-of-requires : tie.Need-column-of-requires
 column-of-requires c κs = search needs
 
-writer-signs-requires : tie.Need-writer-signs-requires
-writer-signs-requires c κs = search needs
-
-smallest-requires : tie.Need-smallest-requires
-smallest-requires c κs = search needs
+writer-verdict-requires : tie.Need-writer-verdict-requires
+writer-verdict-requires c κs = search needs
 
 enum-told : tie.Need-enum-told
 enum-told c = search needs
@@ -27,21 +24,20 @@ refused-requires c κs = search needs
 
 returns : tie.Need-returns
 returns c =
-    let a = c .before .before .before .before .before .before .args in
-    open-admitted (a .o) (a .c) (a .s) (a .e) (c .before .before .before .before .before .column-of .ensures) (c .before .before .before .before .writer-signs .ensures) (c .before .before .before .smallest .ensures) (c .before .enum-told .given .1) (c .opened .ensures)
+    let a = c .before .before .before .before .before .args in
+    open-admitted (a .o) (a .c) (a .s) (a .e) (c .before .before .before .before .column-of .ensures) (c .before .before .before .writer-verdict .ensures) (c .before .enum-told .given .1) (c .opened .ensures)
 
 returns-2 : tie.Need-returns-2
 returns-2 c =
-    let a = c .before .before .before .before .before .before .before .args in
-    open-refused (a .o) (a .c) (a .s) (a .e) (c .before .before .before .before .before .before .column-of .ensures) (c .before .before .before .before .before .writer-signs .ensures) (c .before .before .before .before .smallest .ensures) (c .before .before .v .given .1) (c .refused .ensures)
+    let a = c .before .before .before .before .before .before .args in
+    open-refused (a .o) (a .c) (a .s) (a .e) (c .before .before .before .before .before .column-of .ensures) (c .before .before .before .before .writer-verdict .ensures) (c .before .before .v .given .1) (c .refused .ensures)
 
 pub open-on-spec : {M : Type 1} → statement M
 open-on-spec =
     tie.close
     (tie.spec
     column-of-requires
-    writer-signs-requires
-    smallest-requires
+    writer-verdict-requires
     enum-told
     opened-requires
     enum-known-v

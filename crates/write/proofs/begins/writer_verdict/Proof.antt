@@ -1,0 +1,93 @@
+-- The tests in the order of the signs.
+use mathlib.Core.Bool.{_||_}
+use mathlib.Core.Path.{_≡_, refl, sym, _∙_}
+use borrow.Author.Needs.{needs}
+use lib.Dec.{eqb}
+use Rattle.read.specs.Machine.{isDue}
+use Rattle.read.specs.Admission.{entry}
+use Rattle.read.proofs.Verdicts.{first-here, first-on, first-none}
+use Rattle.write.proofs.begins.writer_verdict.Statement.{statement}
+use Rattle.write.proofs.begins.writer_verdict.Tie as tie
+
+is-gone-requires : tie.Need-is-gone-requires
+is-gone-requires c κs = search needs
+
+returns : tie.Need-returns
+returns c = first-here _ _ _ (sym (c .before .is-gone .ensures) ∙ c .if1 .taken) refl
+
+returns-2 : tie.Need-returns-2
+returns-2 c =
+    let x = c .before in
+    first-on _ _ _ (sym (x .before .is-gone .ensures) ∙ x .if1 .left) (first-here _ _ _ (c .if2 .taken) refl)
+
+entry-requires : tie.Need-entry-requires
+entry-requires c κs = search needs
+
+is-due-requires : tie.Need-is-due-requires
+is-due-requires c κs = search needs
+
+either-requires : tie.Need-either-requires
+either-requires c κs = search needs
+
+-- not now, by the table or by what slot 0 has due
+late-is : (x : tie.After-either) →
+    (let a = x .before .before .before .before .before .before .before .args in
+    x .either .result ≡ (eqb (entry (a .c .phase) (a .column)) 6 || isDue (a .s .due)))
+late-is x = x .either .ensures ∙ (λ i. eqb (x .before .before .entry .ensures i) 6 || x .before .is-due .ensures i)
+
+returns-3 : tie.Need-returns-3
+returns-3 c =
+    let y = c .before .before .before .before in
+    let x = y .before in
+    first-on _ _ _ (sym (x .before .is-gone .ensures) ∙ x .if1 .left)
+    (first-on _ _ _ (y .if2 .left) (first-here _ _ _ (sym (late-is (c .before)) ∙ c .if3 .taken) refl))
+
+any-open-requires : tie.Need-any-open-requires
+any-open-requires c κs = search needs
+
+returns-4 : tie.Need-returns-4
+returns-4 c =
+    let z = c .before .before in
+    let y = z .before .before .before .before in
+    let x = y .before in
+    first-on _ _ _ (sym (x .before .is-gone .ensures) ∙ x .if1 .left)
+    (first-on _ _ _ (y .if2 .left)
+    (first-on _ _ _ (sym (late-is (z .before)) ∙ z .if3 .left) (first-here _ _ _ (sym (c .before .any-open .ensures) ∙ c .if4 .taken) refl)))
+
+returns-5 : tie.Need-returns-5
+returns-5 c =
+    let w = c .before in
+    let z = w .before .before in
+    let y = z .before .before .before .before in
+    let x = y .before in
+    first-on _ _ _ (sym (x .before .is-gone .ensures) ∙ x .if1 .left)
+    (first-on _ _ _ (y .if2 .left)
+    (first-on _ _ _ (sym (late-is (z .before)) ∙ z .if3 .left)
+    (first-on _ _ _ (sym (w .before .any-open .ensures) ∙ w .if4 .left) (first-here _ _ _ (c .if5 .taken) refl))))
+
+returns-6 : tie.Need-returns-6
+returns-6 c =
+    let w = c .before in
+    let z = w .before .before in
+    let y = z .before .before .before .before in
+    let x = y .before in
+    first-on _ _ _ (sym (x .before .is-gone .ensures) ∙ x .if1 .left)
+    (first-on _ _ _ (y .if2 .left)
+    (first-on _ _ _ (sym (late-is (z .before)) ∙ z .if3 .left)
+    (first-on _ _ _ (sym (w .before .any-open .ensures) ∙ w .if4 .left) (first-on _ _ _ (c .if5 .left) (first-none refl)))))
+
+pub writer-verdict-spec : {M : Type 1} → statement M
+writer-verdict-spec =
+    tie.close
+    (tie.spec
+    is-gone-requires
+    returns
+    returns-2
+    entry-requires
+    is-due-requires
+    either-requires
+    returns-3
+    any-open-requires
+    returns-4
+    returns-5
+    returns-6)
