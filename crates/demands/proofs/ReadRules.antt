@@ -12,7 +12,6 @@ use Rattle.table.specs.Copy.{zeros, lookRule, usedRule}
 use Rattle.table.proofs.Split.{split}
 use Rattle.read.specs.declared.Verdict.{Verdict}
 use Rattle.read.specs.declared.Verdict.the-variants.{Admitted, Refused}
-use Rattle.read.specs.declared.Signs.{Signs}
 use Rattle.read.specs.declared.State.{State}
 use Rattle.read.specs.declared.Slot.{Slot}
 use Rattle.read.specs.declared.Made.{Made}
@@ -20,7 +19,7 @@ use Rattle.read.specs.declared.Reply.{Reply}
 use Rattle.read.specs.declared.Handle.{Handle}
 use Rattle.read.specs.declared.Handle.the-variants.{LookUp}
 use Rattle.read.specs.Machine.{slotCount, sized, judged, fresh}
-use Rattle.read.specs.Handles.{smallest, handleSigns, guardedCopy, handled, handleOn}
+use Rattle.read.specs.Handles.{Sign, smallest, handleSigns, guardedCopy, handled, handleOn}
 use Rattle.read.specs.Calls.{Lent, lent, slotAt, withSlot, refusal, handleReply, handleRule, createReply, createRule, firstFree, throughRule, viewRule, pairRule, startRule}
 use Rattle.write.specs.declared.Call.the-variants.{Create, On}
 use Rattle.write.specs.Machine.{callOn, callRule}
@@ -100,7 +99,7 @@ module _ (i j key : ℕ) (w : World) where
   joined =
       let v = judged (w .state .control) (w .left) (w .right) (w .log) in
       let signs = handleSigns (w .state .control) (eqb i 0) s (LookUp j key) in
-      subst₂ (λ (o : Lent Reply) (u : Signs). Joined (o .made) (shownBy v (ltb i slotCount) (smallest u)))
+      subst₂ (λ (o : Lent Reply) (u : List Sign). Joined (o .made) (shownBy v (ltb i slotCount) (smallest u)))
       (sym (one-handle i (LookUp j key) (w .state) (w .left) (w .right) (w .log))) (any-key (eqb i 0))
       (joined-by v (ltb i slotCount) (smallest signs))
 

@@ -29,6 +29,7 @@ use Rattle.read.specs.Machine.{slotCount, logRoom, noSlot, newSlot, underway}
 use Rattle.read.specs.Admission.{entry, handleNumber}
 use Rattle.read.specs.Handles.{smallest, handleSigns, handleOn, handled, withDue, bit}
 use Rattle.read.specs.Calls.{Lent, lent, slotAt, withSlot, createSigns, firstFree}
+use Rattle.read.proofs.Verdicts.{admitted-unopposed, Refusal, refused-mild}
 use Rattle.write.specs.declared.Moved.{Moved}
 use Rattle.write.specs.declared.Opening.{Opening}
 use Rattle.write.specs.declared.Call.{Call}
@@ -41,12 +42,13 @@ use Rattle.write.specs.Machine.{callOn}
 use Rattle.write.specs.World.{World, worldOf, reply, answerOf, valueOf}
 use Rattle.write.specs.Numbers.{isRun}
 use Rattle.write.proofs.Cases.{by, below}
-use Rattle.write.proofs.Verdicts.{judging, Unopposed, admitted-unopposed, Refusal, refused-mild, append-idle, open-idle}
+use Rattle.write.proofs.Verdicts.{judging, append-idle, open-idle}
 use Rattle.write.proofs.Control.{Whole, some-slot}
 use Rattle.demands.specs.Account.{Reader, Account, withAt, newReader, turned, spoke, unswapped, unpublished, accepts, ofStore, ofReader, missed, withPlan, noted}
 use Rattle.demands.specs.Table.{wanted, wantedValue, worth, worthOn}
+use Rattle.demands.proofs.Passed.{on-passed, WritePassed, write-passed}
 use Rattle.demands.proofs.Phases.{withJob}
-use Rattle.demands.proofs.shown.Invariant.{Held, reachAt, seen, seenOf, Quiet, ViewOf, Inv}
+use Rattle.demands.proofs.shown.Invariant.{Held, reachAt, sight, seenOf, Quiet, ViewOf, Inv}
 use Rattle.demands.proofs.shown.Guards.{at-set, none-open, same-at, other-at, new-shut}
 use Rattle.demands.proofs.shown.Slot.{rowAfter, handled-view, new-view, reload}
 use Rattle.demands.proofs.shown.Log.{length-ops}
@@ -125,7 +127,7 @@ module _ (rs : ℕ → Reader) (i : ℕ) where
 
 pub loads-nothing : {x : World} (a : Account) (i : ℕ) (r : Reader) → r .loaded ≡ a .readers i .loaded → InvOf x a → InvOf x (ofReader i (λ _. r) a)
 loads-nothing {x} a i r e h =
-    subst (λ (ld : ℕ → ℕ → List Op). Inv x (seen (a .store .accepted) (a .store .atBegin) (a .store .published) ld))
+    subst (λ (ld : ℕ → ℕ → List Op). Inv x (sight (a .store .accepted) (a .store .atBegin) (a .store .published) ld))
     (λ z k. sym (same-loaded (a .readers) i r e k) z) h
 
 -- what is read and put back is as it was
@@ -201,28 +203,32 @@ module _ {w : World} {a : Account} (tie : Tie w a) where
 
   -- ---- create
 
+  -- the lowest free slot
+  abbrev free : ℕ
+  free = firstFree (w .state .slots)
+
   pub create-right : Right a Create (reply callOn Create w)
   unfolding callOn
   create-right =
-      judging (λ (o : Reply). Right a Create (lent o (w .left) (w .right) (w .log))) (smallest (createSigns c (firstFree (w .state .slots))))
+      judging (λ (o : Reply). Right a Create (lent o (w .left) (w .right) (w .log))) (smallest (createSigns c free))
       (λ v.
       let z = want ∙ ap (λ x. answerNo x 0) v in
+      let lt : free < slotCount = leb-false slotCount free (admitted-unopposed (createSigns c free) v .1 .0) in
       record {
         answer = sym z;
-        value = value-done a Create (firstFree (w .state .slots)) z free;
-        inv = slot-inv (firstFree (w .state .slots)) (leb-false slotCount (firstFree (w .state .slots)) (admitted-unopposed (createSigns c (firstFree (w .state .slots))) v .slots)) (newReader (a .readers (firstFree (w .state .slots)))) newSlot
-            (λ _ _. record { idle = refl; alone = none-open }) new-view;
+        value = value-done a Create free z free-is;
+        inv = slot-inv free lt (newReader (a .readers free)) newSlot (λ _ _. record { idle = refl; alone = none-open }) new-view;
         steers = tie .steers;
-        reads = slot-reads (w .state) a len (tie .reads) (firstFree (w .state .slots)) (leb-false slotCount (firstFree (w .state .slots)) (admitted-unopposed (createSigns c (firstFree (w .state .slots))) v .slots)) (newReader (a .readers (firstFree (w .state .slots)))) newSlot
-            (record { lives = refl; due = refl; guards = new-shut; epoch = refl; snapshot = tie .reads (firstFree (w .state .slots)) .snapshot });
+        reads = slot-reads (w .state) a len (tie .reads) free lt (newReader (a .readers free)) newSlot
+            (record { lives = refl; due = refl; guards = new-shut; epoch = refl; snapshot = tie .reads free .snapshot });
       })
-      (λ x v. mild-right Create refl x (refused-mild (createSigns c (firstFree (w .state .slots))) x v) (want ∙ ap (λ y. answerNo y 0) v) (w .state) refl)
+      (λ x v. mild-right Create refl x (refused-mild (createSigns c free) refl x v) (want ∙ ap (λ y. answerNo y 0) v) (w .state) refl)
     where
-      free : firstFree (w .state .slots) ≡ seek (λ i. not (a .readers i .lives)) 0 slotCount
-      free = λ z. seek (λ i. not (tie .reads i .lives z)) 0 slotCount
+      free-is : firstFree (w .state .slots) ≡ seek (λ i. not (a .readers i .lives)) 0 slotCount
+      free-is = λ z. seek (λ i. not (tie .reads i .lives z)) 0 slotCount
 
       want : wanted a Create ≡ answerNo (smallest (createSigns c (firstFree (w .state .slots)))) 0
-      want = wanted-create a c (tie .steers) whole (firstFree (w .state .slots)) free
+      want = wanted-create a c (tie .steers) whole (firstFree (w .state .slots)) free-is
 
   -- ---- a call on a handle
 
@@ -262,13 +268,13 @@ module _ {w : World} {a : Account} (tie : Tie w a) where
         let signs = handleSigns c (eqb i 0) s hd in
         judging OnRight (smallest signs)
         (λ v.
-        let u = admitted-unopposed signs v in
+        let u = on-passed c (eqb i 0) s hd v in
         met-right (handled c s hd (w .left) (w .right)) (want-on ∙ ap (λ y. answerNo y (answer15 (misses (a .readers i) hd (c .null)))) v)
         (own-quiet (tie .sound) (tie .inv) i hd (handled c s hd (w .left) (w .right) .slot) u)
         (handled-view c (a .store .published) (tie .inv .read) (tie .inv .each i) (not-false _ (u .slot)) unwaited (eqb i 0) hd u)
         (handled-met (a .store .published) (tie .reads i) (tie .inv .each i .four) c (w .left) (w .right) (tie .inv .each i .shows) (eqb i 0) hd u))
         (λ x v.
-        mild-right (On i hd) refl x (refused-mild signs x v) (want-on ∙ ap (λ y. answerNo y (answer15 (misses (a .readers i) hd (c .null)))) v)
+        mild-right (On i hd) refl x (refused-mild signs refl x v) (want-on ∙ ap (λ y. answerNo y (answer15 (misses (a .readers i) hd (c .null)))) v)
         (withSlot i s (w .state)) (slot-same i (w .state)))
 
   pub handle-right : (i : ℕ) (hd : Handle) → Right a (On i hd) (reply callOn (On i hd) w)
@@ -314,7 +320,7 @@ module _ {w : World} {a : Account} (tie : Tie w a) where
       }
 
   -- in phase Idle, with slot 0 at rest
-  resting : c .phase ≡ Idle → (column : ℕ) (bad full : Bool) → Unopposed (writerSigns column bad full c s0) → Resting (tie .sound) (tie .inv)
+  resting : c .phase ≡ Idle → (column : ℕ) (bad full : Bool) → WritePassed column bad full c s0 → Resting (tie .sound) (tie .inv)
   resting q column bad full u =
       record { idle = q; quiet = record { idle = or-false (eqb (entry (c .phase) column) 6) _ (u .timely) .1; alone = u .guards } }
 
@@ -386,12 +392,12 @@ module _ {w : World} {a : Account} (tie : Tie w a) where
         judging ApRight (smallest signs)
         (λ v.
         let z = want ∙ ap (λ y. answerNo y 0) v in
-        let u = admitted-unopposed signs v in
+        let u = write-passed 7 (not (lawful kind key amount)) full c s0 v in
         let rest = resting (append-idle (not (lawful kind key amount)) full c s0 v) 7 (not (lawful kind key amount)) full u in
         by ApRight (c .first) (λ f. early-right z rest f (not-false _ (u .operation)))
         (λ f. below ApRight (c .length) logRoom (λ b. later-right z rest f b)
-        (λ b. absurd (let m = roomy (c .first) f (admitted-unopposed signs v .log) in omega arith))))
-        (λ x v. mild-right (Append kind key amount) refl x (refused-mild signs x v) (want ∙ ap (λ y. answerNo y 0) v) (kept-at c) (move-same 0 (w .state)))
+        (λ b. absurd (let m = roomy (c .first) f (u .log) in omega arith))))
+        (λ x v. mild-right (Append kind key amount) refl x (refused-mild signs refl x v) (want ∙ ap (λ y. answerNo y 0) v) (kept-at c) (move-same 0 (w .state)))
 
   -- ---- publish, try, flush, take
 
@@ -458,5 +464,5 @@ module _ {w : World} {a : Account} (tie : Tie w a) where
       let signs = writerSigns (columnOf o) false false c s0 in
       let want = wanted-open a c (tie .steers) whole s0 e0 (tie .reads 0) o in
       judging (OpRight o) (smallest signs)
-      (λ v. opened-right o (want ∙ ap (λ y. answerNo y 0) v) (resting (open-idle o c s0 v) (columnOf o) false false (admitted-unopposed signs v)))
-      (λ x v. mild-right (Open o) refl x (refused-mild signs x v) (want ∙ ap (λ y. answerNo y 0) v) (kept-at c) (move-same 0 (w .state)))
+      (λ v. opened-right o (want ∙ ap (λ y. answerNo y 0) v) (resting (open-idle o c s0 v) (columnOf o) false false (write-passed (columnOf o) false false c s0 v)))
+      (λ x v. mild-right (Open o) refl x (refused-mild signs refl x v) (want ∙ ap (λ y. answerNo y 0) v) (kept-at c) (move-same 0 (w .state)))

@@ -23,7 +23,8 @@ use Rattle.write.specs.Begins.{taking, opened}
 use Rattle.write.specs.Numbers.{isTry}
 use Rattle.write.proofs.Cases.{by, below, keeping-cases, draining-cases, polled-cases, polling-cases, beginning-cases, lastPolling-cases, lastSnapping-cases, snapping-cases}
 use Rattle.write.proofs.Control.{Whole, Fits, fits}
-use Rattle.demands.specs.Account.{Move, null, Store, unswapped, isOdd, Account, withPlan, makes, advanced, onSwap, asked, begins as openingOf}
+use Rattle.demands.specs.Account.{Move, null, Store, unswapped, isOdd, Account, withPlan, advanced, onSwap, asked, begins as openingOf}
+use Rattle.demands.proofs.account.Moves.{makes}
 use Rattle.demands.proofs.Phases.{isTryJob, withJob}
 use Rattle.demands.proofs.account.Plan.{moveOf, plan, step-plan, not-made}
 use Rattle.demands.proofs.account.Beginnings.{Known, publish-known, try-known, take-known}

@@ -14,12 +14,12 @@ use Rattle.read.specs.declared.Phase.{Phase}
 use Rattle.read.specs.declared.Slot.{Slot}
 use Rattle.read.specs.declared.Control.{Control}
 use Rattle.read.specs.declared.Handle.the-variants.{LookUp}
-use Rattle.read.specs.declared.Signs.{Signs}
 use Rattle.read.specs.declared.Verdict.{Verdict}
 use Rattle.read.specs.declared.Verdict.the-variants.{Admitted, Refused}
 use Rattle.read.specs.Machine.{slotCount, guardCount, noSlot, logWords, fresh, isGone, isOpen, judged}
-use Rattle.read.specs.Handles.{smallest, handleSigns, guardedCopy, copyOf}
+use Rattle.read.specs.Handles.{smallest, handleSigns, guardedCopy, copyOf, Sign}
 use Rattle.read.specs.Calls.{slotAt, throughRule}
+use Rattle.read.proofs.Verdicts.{mild, refused-mild}
 use Rattle.write.specs.declared.Call.{Call}
 use Rattle.write.specs.declared.Call.the-variants.{Create, On, Append, Open, Step, Run}
 use Rattle.write.specs.Runs.{snapAt}
@@ -27,11 +27,12 @@ use Rattle.write.specs.Machine.{callOn, callRule}
 use Rattle.write.specs.World.{World, freshWorld, reply, next, answerOf, valueOf}
 use Rattle.write.specs.Numbers.{isRun}
 use Rattle.write.proofs.Cases.{by}
-use Rattle.write.proofs.Verdicts.{judging, admitted-unopposed, refused-mild}
+use Rattle.write.proofs.Verdicts.{judging}
 use Rattle.write.proofs.NeverBroken.{sound-judged, sound-fresh}
 use Rattle.demands.specs.Account.{Reader, Account, freshAccount, newReader, nobody, advanced, ran, noted}
 use Rattle.demands.specs.Table.{least, busy, wanted}
-use Rattle.demands.specs.Demands.{Unused as UnusedIn, Told, tell, telling, told, Runs, Shows, HandsOver, Demands, afterSteps as steppedWorld}
+use Rattle.demands.specs.Demands.{Unused as UnusedIn, Told, tell, telling, told, Runs, shown, copySeen, HandsOver, Demands, afterSteps as steppedWorld}
+use Rattle.demands.proofs.Passed.{on-passed}
 use Rattle.demands.proofs.delay.RunIsSteps.{RunIsSteps, run-is-steps-sound}
 use Rattle.demands.proofs.Sides.{readCopy, writeCopy}
 use Rattle.demands.proofs.shown.Invariant.{seenOf, Stage, opsOf}
@@ -145,13 +146,18 @@ all-told ks = all-telling ks (record { world = freshWorld; account = freshAccoun
 
 -- ---- what it says
 
-pub admitted-zero : (v : Verdict) (s : Signs) (n : ℕ) → smallest s ≡ v → answerNo v n ≡ 0 → v ≡ Admitted
-admitted-zero Admitted s n e z = refl
-admitted-zero (Refused x) s n e z = absurd (let m = refused-mild s x e in omega arith)
+pub admitted-zero : (v : Verdict) (s : List Sign) → mild s ≡ true → (n : ℕ) → smallest s ≡ v → answerNo v n ≡ 0 → v ≡ Admitted
+admitted-zero Admitted s m n e z = refl
+admitted-zero (Refused x) s m n e z = absurd (let y = refused-mild s m x e in omega arith)
 
 module _ {w : World} {a : Account} (h : Tie w a) where
   abbrev c : Control
   c = w .state .control
+
+  pub living-in : (i : ℕ) → a .readers i .lives ≡ true → i < slotCount
+  living-in i e =
+      under i slotCount (λ lt. lt)
+      (λ le. clash (h .reads i .lives ∙ e) (ap (λ (x : Slot). x .used) (List·getD-eq-default (w .state .slots) noSlot (let z = h .sound .slots in omega arith))))
 
   -- ---- a living guard
 
@@ -163,8 +169,7 @@ module _ {w : World} {a : Account} (h : Tie w a) where
     owner = sym (h .reads i .lives) ∙ guard-inside (h .inv .each i .shape) j open-here .0
 
     owner-in : i < slotCount
-    owner-in = under i slotCount (λ lt. lt)
-        (λ le. clash (h .reads i .lives ∙ owner) (ap (λ (x : Slot). x .used) (List·getD-eq-default (w .state .slots) noSlot (let z = h .sound .slots in omega arith))))
+    owner-in = living-in i owner
 
     not-both : (eqb i 0 && busy a || false) ≡ false
     not-both = go (eqb i 0) (busy a) refl refl
@@ -194,7 +199,7 @@ module _ {w : World} {a : Account} (h : Tie w a) where
       let s = slotAt (w .state) i in
       let signs = handleSigns c (eqb i 0) s (LookUp j 0) in
       let want = wanted-on a c (h .steers) (whole h) i lt s (snapAt (w .state) i) (h .reads i) (h .inv .each i .shape) (LookUp j 0) in
-      let v = admitted-zero (smallest signs) signs 0 refl (sym want ∙ can-look i j p 0) in
+      let v = admitted-zero (smallest signs) signs refl 0 refl (sym want ∙ can-look i j p 0) in
       through (judged c (w .left) (w .right) (w .log)) (ltb i slotCount) (smallest signs) (sound-judged (h .sound)) (lt-ltb i slotCount lt) v
       ∙ h .inv .each i .shows j (open-here i j p)
     where
@@ -226,12 +231,12 @@ module _ {w : World} {a : Account} (h : Tie w a) where
       (λ _.
       by (λ (x : List ℕ). x ≡ []) (ltb i slotCount)
       (λ _.
-      judging (λ (x : List ℕ). x ≡ []) (smallest signs) (λ v. clash (sym (h .reads i .guards j) ∙ not-false _ (admitted-unopposed signs v .guard)) p)
+      judging (λ (x : List ℕ). x ≡ []) (smallest signs) (λ v. clash (sym (h .reads i .guards j) ∙ not-false _ (on-passed c (eqb i 0) (slotAt (w .state) i) (LookUp j 0) v .guard)) p)
       (λ x _. refl))
       (λ _. refl))
       (λ x _. refl)
 
-  all-shows : Shows (record { world = w; account = a })
+  all-shows : (i j : ℕ) → shown i j w ≡ copySeen (a .readers i) j
   all-shows i j = split (a .readers i .guards j)
       (λ o. open-shows i j o ∙ ap (λ (b : Bool). elim b [ true ↦ after (a .readers i .loaded j) empty | false ↦ [] ]) (sym o))
       (λ o. shut-shows i j o ∙ ap (λ (b : Bool). elim b [ true ↦ after (a .readers i .loaded j) empty | false ↦ [] ]) (sym o))

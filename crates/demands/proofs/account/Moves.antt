@@ -4,7 +4,16 @@ use mathlib.Core.Path.{_≡_, refl}
 use mathlib.Core.Bool.{Bool, true, false}
 use mathlib.Core.List.{List, [], _∷_}
 use lib.Dec.{eqb}
-use Rattle.demands.specs.Account.{Move, begin, poll, copy, apply, swap, snap, null, lock, finish, Account, ofReader, ofStore, withEnd, withPlan, dropped, readsEpoch, onCopy, onSwap, makes, advanced, ran}
+use Rattle.demands.specs.Account.{Move, begin, poll, copy, apply, swap, snap, null, lock, finish, Account, ofReader, ofStore, withEnd, withPlan, dropped, readsEpoch, onCopy, onSwap, deed, advanced, ran}
+
+abbrev pub underLock : Move → Bool
+underLock x = deed x .0
+
+abbrev pub meets : Account → Move → Bool
+meets a x = deed x .1 a
+
+abbrev pub makes : Move → Account → Account
+makes x a = deed x .2 a
 
 abbrev moveNumber : Move → ℕ
 moveNumber begin = 0

@@ -21,12 +21,12 @@ use Rattle.read.specs.declared.Handle.{Handle}
 use Rattle.read.specs.declared.Handle.the-variants.{Drop, Enter, GoOn, Release, LookUp, WasDropped}
 use Rattle.read.specs.declared.Made.{Made}
 use Rattle.read.specs.Machine.{openOn, withReading, guardCount, shut, isOpen, standsRight, putGuard, firstGuard, anyOpen, allOpen, isDue, isLoad}
-use Rattle.read.specs.Handles.{withDue, freed, guarded, loaded, entered, wentOn, released, copyOf, bit, handled, handleSigns}
+use Rattle.read.specs.Handles.{withDue, freed, guarded, loaded, entered, wentOn, released, copyOf, bit, handled}
 use Rattle.read.specs.Admission.{column, entry}
 use Rattle.write.specs.Steps.{holds, seen}
-use Rattle.write.proofs.Verdicts.{Unopposed}
-use Rattle.demands.specs.Account.{Reader, withAt, lowest, inside, reader as readerOf, dropped, turned, opens, closes, readsEpoch, spoke, quits}
-use Rattle.demands.specs.Table.{delays, worthOn}
+use Rattle.demands.specs.Account.{delays, Reader, withAt, lowest, inside, reader as readerOf, dropped, turned, opens, closes, readsEpoch, spoke, quits}
+use Rattle.demands.specs.Table.{worthOn}
+use Rattle.demands.proofs.Passed.{OnPassed}
 use Rattle.demands.proofs.shown.Guards.{same-at, other-at, has-room, open-below, all-shut, at-put}
 use Rattle.demands.proofs.shown.Slot.{rowAfter}
 use Rattle.demands.proofs.Booleans.{clash, or-false, or-true, lacks-none}
@@ -215,7 +215,7 @@ module _ (os : List Op) {r : Reader} {s : Slot} {e : ℕ} (h : Reads r s e) (fou
     -- every handle call that is admitted
     pub handled-met :
         (l rr : List ℕ) → ((j : ℕ) → isOpen (s .guards) j ≡ true → copyOf (standsRight (s .guards) j) l rr ≡ after (r .loaded j) empty) →
-        (own : Bool) (hd : Handle) → Unopposed (handleSigns c own s hd) →
+        (own : Bool) (hd : Handle) → OnPassed c own s hd →
         (let m = handled c s hd l rr in Met (spoke hd (number (m .answer)) (m .value) os r) (misses r hd (c .null)) (worthOn hd (c .null) r) hd m)
     unfolding handled
     handled-met l rr shows own Drop u = record { reads = freed-reads; answer = refl; value = refl; row = λ j o. refl }

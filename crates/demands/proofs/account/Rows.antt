@@ -7,7 +7,6 @@ use mathlib.Core.List.{List, [], _∷_, _++_}
 use native.Mathlib.Omega.{arith}
 use lib.Dec.{eqb, ltb}
 use borrow.Author.Tests.{eq-eqb, ltb-true}
-use Rattle.table.specs.declared.Answer.{Answer}
 use Rattle.table.specs.Answers.{number}
 use Rattle.table.proofs.Split.{split}
 use Rattle.read.specs.declared.Phase.{Phase}
@@ -17,17 +16,17 @@ use Rattle.read.specs.declared.Handle.{Handle}
 use Rattle.read.specs.declared.Handle.the-variants.{Drop, Enter, GoOn, Release, LookUp, WasDropped}
 use Rattle.read.specs.declared.Verdict.{Verdict}
 use Rattle.read.specs.declared.Verdict.the-variants.{Admitted, Refused}
-use Rattle.read.specs.declared.Signs.{Signs}
 use Rattle.read.specs.Machine.{underway, isGone, locks}
 use Rattle.read.specs.Admission.{handleNumber, column, entry, notNow, locked as lockedNo}
-use Rattle.read.specs.Handles.{given, smallest}
+use Rattle.read.specs.Handles.{Sign, smallest}
 use Rattle.write.specs.declared.Call.{Call}
 use Rattle.write.specs.declared.Call.the-variants.{Create, On, Append, Open, Step, Run}
 use Rattle.write.specs.declared.Opening.the-variants as opening
 use Rattle.write.specs.Numbers.{is, among, isStep}
 use Rattle.write.proofs.Control.{Whole}
 use Rattle.demands.specs.Account.{Move, Account, account}
-use Rattle.demands.specs.Table.{least, busy, underLock, lockHeld, meetsReader, whatComesBack, wanted}
+use Rattle.demands.specs.Table.{least, busy, lockHeld, meetsReader, whatComesBack, wanted}
+use Rattle.demands.proofs.account.Moves.{underLock}
 use Rattle.demands.proofs.account.Plan.{moveOf, plan, plan-head, plan-none}
 use Rattle.demands.proofs.account.Control.{SteersOf}
 use Rattle.demands.proofs.Phases.{idle-or-gone}
@@ -44,11 +43,13 @@ row n b = (n, b)
 -- row by row, the later ones where the earlier do not apply
 pub data Agree : List Row → List Row → Type 0 where
   none : Agree [] []
+  skip : {n : ℕ} {rs ss : List Row} → Agree rs ss → Agree (row n false ∷ rs) ss
   same : {r : Row} {rs ss : List Row} → Agree rs ss → Agree (r ∷ rs) (r ∷ ss)
   here : {n : ℕ} {b c : Bool} {rs ss : List Row} → b ≡ c → (b ≡ false → Agree rs ss) → Agree (row n b ∷ rs) (row n c ∷ ss)
 
 pub agree-least : {rs ss : List Row} → Agree rs ss → least rs ≡ least ss
 agree-least none = refl
+agree-least (skip h) = agree-least h
 agree-least (same {r} h) = ap (λ (x : ℕ). elim (r .1) [ true ↦ r .0 | false ↦ x ]) (agree-least h)
 agree-least (here {n} {b} {c} {rs} {ss} q f) = go b c q (λ e. agree-least (f e))
   where
@@ -128,33 +129,23 @@ unfolding wanted
 writes-idle a k w z =
     split (busy a) (λ u. absurd (gives-some 6 (whatComesBack a k) refl (or-first _ (or-first _ (λ i. w i && u i))) z)) (λ u. u)
 
-abbrev pub signRows : Signs → List Row
-signRows s =
-    row 3 (s .gone) ∷ row 4 (s .«no_slot») ∷ row 5 (s .operation) ∷ row 6 (s .«not_now») ∷ row 7 (s .locked) ∷ row 8 (s .«guards_open»)
-    ∷ row 9 (s .«no_guard») ∷ row 10 (s .«four_guards») ∷ row 11 (s .«log_full») ∷ row 12 (s .«slots_full») ∷ []
+abbrev pub signRows : List Sign → List Row
+signRows [] = []
+signRows (x ∷ xs) = row (number (x .answer)) (x .applies) ∷ signRows xs
 
 abbrev pub answerNo : Verdict → ℕ → ℕ
 answerNo Admitted x = x
 answerNo (Refused a) x = number a
 
-given-no : (b : Bool) (a : Answer) (v : Verdict) (x y : ℕ) → y ≡ answerNo v x → elim b [ true ↦ number a | false ↦ y ] ≡ answerNo (given b a v) x
-given-no true a v x y e = refl
-given-no false a v x y e = e
-
-pub rows-least : (s : Signs) (rest : List Row) → least (signRows s ++ rest) ≡ answerNo (smallest s) (least rest)
+pub rows-least : (s : List Sign) (rest : List Row) → least (signRows s ++ rest) ≡ answerNo (smallest s) (least rest)
 unfolding smallest
-rows-least s rest =
-    given-no (s .gone) _ _ x _
-    (given-no (s .«no_slot») _ _ x _
-    (given-no (s .operation) _ _ x _
-    (given-no (s .«not_now») _ _ x _
-    (given-no (s .locked) _ _ x _
-    (given-no (s .«guards_open») _ _ x _
-    (given-no (s .«no_guard») _ _ x _
-    (given-no (s .«four_guards») _ _ x _ (given-no (s .«log_full») _ _ x _ (given-no (s .«slots_full») _ Admitted x x refl)))))))))
+rows-least [] rest = refl
+rows-least (x ∷ xs) rest = given (x .applies) (rows-least xs rest)
   where
-    x : ℕ
-    x = least rest
+    given : (b : Bool) → least (signRows xs ++ rest) ≡ answerNo (smallest xs) (least rest) →
+        elim b [ true ↦ number (x .answer) | false ↦ least (signRows xs ++ rest) ] ≡ answerNo (elim b [ true ↦ Refused (x .answer) | false ↦ smallest xs ]) (least rest)
+    given true e = refl
+    given false e = e
 
 -- ---- tests
 

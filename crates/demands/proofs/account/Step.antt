@@ -22,23 +22,24 @@ use Rattle.read.specs.declared.Verdict.the-variants.{Admitted}
 use Rattle.read.specs.Machine.{slotCount, noSlot, underway, place}
 use Rattle.read.specs.Handles.{smallest, freed, bit}
 use Rattle.read.specs.Calls.{Lent, lent, slotAt}
+use Rattle.read.proofs.Verdicts.{refused-mild}
 use Rattle.write.specs.declared.Moved.{Moved}
 use Rattle.write.specs.declared.Call.the-variants.{Step}
-use Rattle.write.specs.Steps.{holds, seen as sees, pollMove, lastPollMove, stepAt}
+use Rattle.write.specs.Steps.{holds, seen, pollMove, lastPollMove, stepAt}
 use Rattle.write.specs.Begins.{stepSigns}
 use Rattle.write.specs.Scans.{polls}
 use Rattle.write.specs.Runs.{snapAt, lift, stepOn}
 use Rattle.write.specs.Machine.{callOn}
 use Rattle.write.specs.World.{World, worldOf, reply}
 use Rattle.write.proofs.Cases.{by}
-use Rattle.write.proofs.Verdicts.{judging, refused-mild, step-underway}
+use Rattle.write.proofs.Verdicts.{judging, step-underway}
 use Rattle.write.proofs.Control.{Fits, fits, some-slot, whole-step}
 use Rattle.write.proofs.Left.{outcome, step-answer, Stepped, done, held, declined, declinedMove, step-stepped, step-value}
-use Rattle.demands.specs.Account.{Reader, Account, Move, null, withAt, ofReader, readsEpoch, dropped, withPlan, makes, advanced, noted}
-use Rattle.demands.specs.Table.{least, meets, meetsReader, wanted, wantedValue, worth}
-use Rattle.demands.proofs.account.Moves.{isSwap, each-move}
+use Rattle.demands.specs.Account.{Reader, Account, Move, null, withAt, ofReader, readsEpoch, dropped, withPlan, advanced, noted}
+use Rattle.demands.specs.Table.{least, meetsReader, wanted, wantedValue, worth}
+use Rattle.demands.proofs.account.Moves.{makes, meets, isSwap, each-move}
 use Rattle.demands.proofs.shown.Guards.{at-set, same-at, other-at}
-use Rattle.demands.proofs.shown.Invariant.{seen, seenOf, afterMove, Inv}
+use Rattle.demands.proofs.shown.Invariant.{sight, seenOf, afterMove, Inv}
 use Rattle.demands.proofs.shown.Steps.{Next, stepOn-keeps}
 use Rattle.demands.proofs.account.Plan.{moveOf, plan, plan-head, step-plan, not-made}
 use Rattle.demands.proofs.account.Control.{StandsOf, SteersOf, Stands, isLast, step-steers}
@@ -78,10 +79,10 @@ moved-seen x a =
     (λ q. loads 0 (dropped (a .readers 0)) refl ∙ sym (stays (ap isSwap q)))
   where
     stays : isSwap x ≡ false → afterMove x (seenOf a) ≡ seenOf a
-    stays p = ap (λ (b : Bool). elim b [ true ↦ seen (a .store .accepted) (a .store .atBegin) (a .store .atBegin) (λ i. a .readers i .loaded) | false ↦ seenOf a ]) p
+    stays p = ap (λ (b : Bool). elim b [ true ↦ sight (a .store .accepted) (a .store .atBegin) (a .store .atBegin) (λ i. a .readers i .loaded) | false ↦ seenOf a ]) p
 
     loads : (i : ℕ) (r : Reader) → r .loaded ≡ a .readers i .loaded → seenOf (ofReader i (λ _. r) a) ≡ seenOf a
-    loads i r e = λ z. seen (a .store .accepted) (a .store .atBegin) (a .store .published) (λ k. same-loaded (a .readers) i r e k z)
+    loads i r e = λ z. sight (a .store .accepted) (a .store .atBegin) (a .store .published) (λ k. same-loaded (a .readers) i r e k z)
 
 -- a step that ends the call is the last of the plan
 last-step : (xs : List Move) → leb (suc (length xs)) 1 ≡ not (isBusy xs)
@@ -119,15 +120,15 @@ module _ {w : World} {a : Account} (tie : Tie w a) where
   -- slot k's snapshot
   reads-snapped : (k : ℕ) → k < slotCount → (i : ℕ) →
       Reads (withAt k (readsEpoch (a .readers k)) (a .readers) i) (getD (set (st .slots) k (slotAt st k)) i noSlot)
-      (getD (set (st .snapshots) k (sees (slotAt st k) (snapAt st k))) i 0)
+      (getD (set (st .snapshots) k (seen (slotAt st k) (snapAt st k))) i 0)
   reads-snapped k b =
       subst
       (λ (ss : List Slot). (i : ℕ) → Reads (withAt k (readsEpoch (a .readers k)) (a .readers) i) (getD ss i noSlot)
-      (getD (set (st .snapshots) k (sees (slotAt st k) (snapAt st k))) i 0))
+      (getD (set (st .snapshots) k (seen (slotAt st k) (snapAt st k))) i 0))
       (sym (set-getD (st .slots) k noSlot))
-      (at-set (λ i y. Reads (withAt k (readsEpoch (a .readers k)) (a .readers) i) (slotAt st i) y) (st .snapshots) k (sees (slotAt st k) (snapAt st k)) 0
+      (at-set (λ i y. Reads (withAt k (readsEpoch (a .readers k)) (a .readers) i) (slotAt st i) y) (st .snapshots) k (seen (slotAt st k) (snapAt st k)) 0
       (let z = tie .sound .snapshots in omega arith)
-      (subst (λ (r : Reader). Reads r (slotAt st k) (sees (slotAt st k) (snapAt st k))) (sym (same-at k (readsEpoch (a .readers k)) (a .readers))) (seen-reads (tie .reads k)))
+      (subst (λ (r : Reader). Reads r (slotAt st k) (seen (slotAt st k) (snapAt st k))) (sym (same-at k (readsEpoch (a .readers k)) (a .readers))) (seen-reads (tie .reads k)))
       (λ i ne. subst (λ (r : Reader). Reads r (slotAt st i) (snapAt st i)) (sym (other-at k (readsEpoch (a .readers k)) (a .readers) i ne)) (tie .reads i)))
 
   -- slot 0 is freed
@@ -293,5 +294,5 @@ module _ {w : World} {a : Account} (tie : Tie w a) where
       (λ v.
       let u = step-underway c v in
       advanced-right u v _ refl (step-stepped c (slot (c .phase)) (snapOf (c .phase)) (w .left) (w .right) (w .log) (c .phase) u))
-      (λ x v. mild-right tie Step refl x (refused-mild (stepSigns 12 c) x v)
+      (λ x v. mild-right tie Step refl x (refused-mild (stepSigns 12 c) refl x v)
       (wanted-step a c (tie .steers) (whole tie) ∙ ap (λ y. answerNo y (least (stops a c (tie .steers) (whole tie) (meetsReader a) (a .trial)))) v) st refl)

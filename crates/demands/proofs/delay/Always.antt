@@ -12,8 +12,7 @@ use Rattle.read.specs.declared.Handle.{Handle}
 use Rattle.read.specs.declared.Handle.the-variants.{GoOn, Release}
 use Rattle.write.specs.declared.Call.the-variants.{On}
 use Rattle.write.specs.World.{Machine, reply, answerOf, valueOf}
-use Rattle.demands.specs.Account.{Reader, isOdd, inside, turned, closes, spoke}
-use Rattle.demands.specs.Table.{delays}
+use Rattle.demands.specs.Account.{delays, Reader, isOdd, inside, turned, closes, spoke}
 use Rattle.demands.specs.Follows.{readerAfter, Leaves, MovedOn, Always}
 use Rattle.demands.specs.Demands.{Told, tell, told}
 use Rattle.demands.proofs.Booleans.{and-false, both}

@@ -23,11 +23,11 @@ use Rattle.write.specs.declared.Opening.the-variants as opening
 use Rattle.write.specs.Numbers.{is}
 use Rattle.write.specs.World.{Machine, reply, answerOf, valueOf}
 use Rattle.write.proofs.Cases.{by}
-use Rattle.demands.specs.Account.{Reader, Store, Account, Move, begin, poll, copy, apply, swap, snap, null, lock, finish, upFrom, provided, publishing, publishPlan, firstInside, planOf, unswapped, withAt, inside, withPlan, turned, closes, missed, spoke, advanced, ran, noted}
-use Rattle.demands.specs.Table.{delays, meets, meetsReader}
+use Rattle.demands.specs.Account.{delays, Reader, Store, Account, Move, begin, poll, copy, apply, swap, snap, null, lock, finish, upFrom, provided, publishing, publishPlan, firstInside, planOf, unswapped, withAt, inside, withPlan, turned, closes, missed, spoke, advanced, ran, noted}
+use Rattle.demands.specs.Table.{meetsReader}
 use Rattle.demands.specs.Demands.{Told, freshTold, tell, telling, told}
 use Rattle.demands.proofs.Booleans.{clash, and-false}
-use Rattle.demands.proofs.account.Moves.{isSwap, isSnap, each-move, ran-keeps}
+use Rattle.demands.proofs.account.Moves.{meets, isSwap, isSnap, each-move, ran-keeps}
 
 -- ---- plans
 

@@ -6,14 +6,12 @@ use mathlib.Core.Bool.{Bool, true, false, not, _&&_, _||_}
 use mathlib.Core.List.{List, [], _∷_}
 use native.Mathlib.Omega.{arith}
 use lib.Dec.{eqb, ltb}
-use lib.ListN.{List·getD-eq-default}
 use borrow.Author.Tests.{eqb-true, eq-eqb, ne-eqb, lt-ltb}
-use Rattle.table.proofs.Split.{under}
 use Rattle.read.specs.declared.Handle.the-variants.{GoOn, Release}
 use Rattle.read.specs.declared.Phase.the-variants.{Idle}
 use Rattle.read.specs.declared.Slot.{Slot}
 use Rattle.read.specs.declared.Control.{Control}
-use Rattle.read.specs.Machine.{slotCount, isDue, guardCount, underway, noSlot, anyOpen}
+use Rattle.read.specs.Machine.{slotCount, isDue, guardCount, underway, anyOpen}
 use Rattle.read.specs.Handles.{smallest}
 use Rattle.read.specs.Calls.{slotAt}
 use Rattle.write.specs.declared.Opening.{Opening}
@@ -22,8 +20,8 @@ use Rattle.write.specs.Begins.{writerSigns, columnOf}
 use Rattle.write.specs.Runs.{snapAt}
 use Rattle.write.specs.World.{World}
 use Rattle.write.proofs.Verdicts.{open-idle}
-use Rattle.demands.specs.Account.{Reader, Account, Move, poll, each, inside}
-use Rattle.demands.specs.Table.{least, busy, delays, meetsReader, wanted}
+use Rattle.demands.specs.Account.{delays, Reader, Account, Move, poll, each, inside}
+use Rattle.demands.specs.Table.{least, busy, meetsReader, wanted}
 use Rattle.demands.specs.Follows.{Named}
 use Rattle.demands.proofs.shown.Invariant.{odd, Shape, outside, announced, inside as entered}
 use Rattle.demands.proofs.shown.Slot.{at-rest}
@@ -33,7 +31,7 @@ use Rattle.demands.proofs.delay.Always.{delaying}
 use Rattle.demands.proofs.account.Rows.{busy-is, row}
 use Rattle.demands.proofs.account.Answers.{wanted-open}
 use Rattle.demands.proofs.account.Calls.{Tie, whole}
-use Rattle.demands.proofs.account.Demands.{admitted-zero}
+use Rattle.demands.proofs.account.Demands.{living-in, admitted-zero}
 use Rattle.demands.proofs.Phases.{underway-stays}
 use Rattle.demands.proofs.Booleans.{clash}
 
@@ -48,7 +46,7 @@ module _ {w : World} {a : Account} (h : Tie w a) where
       let s = slotAt (w .state) 0 in
       let signs = writerSigns (columnOf o) false false c s in
       open-idle o c s
-      (admitted-zero (smallest signs) signs 0 refl
+      (admitted-zero (smallest signs) signs refl 0 refl
       (sym (wanted-open a c (h .steers) (whole h) s (snapAt (w .state) 0) (h .reads 0) o) ∙ z))
 
   -- ---- progress
@@ -85,8 +83,7 @@ module _ {w : World} {a : Account} (h : Tie w a) where
     under-way = sym (busy-is a c (h .steers) (whole h)) ∙ busy-here
 
     in-range : i < slotCount
-    in-range = under i slotCount (λ lt. lt)
-        (λ le. clash (h .reads i .lives ∙ alive) (ap (λ (x : Slot). x .used) (List·getD-eq-default (w .state .slots) noSlot (let z = h .sound .slots in omega arith))))
+    in-range = living-in h i alive
 
     not-own : i ≢ 0
     not-own e =

@@ -12,6 +12,7 @@ use Rattle.read.specs.Machine.{underway, place}
 use Rattle.read.specs.Admission.{entry}
 use Rattle.read.specs.Handles.{smallest}
 use Rattle.read.specs.Calls.{Lent, slotAt}
+use Rattle.read.proofs.Verdicts.{refused-mild}
 use Rattle.write.specs.declared.Call.{Call}
 use Rattle.write.specs.declared.Call.the-variants.{Step, Run}
 use Rattle.write.specs.Begins.{stepSigns}
@@ -20,7 +21,7 @@ use Rattle.write.specs.Machine.{callOn, callRule, going}
 use Rattle.write.specs.World.{Machine, World, worldOf, reply, next, answerOf, valueOf}
 use Rattle.write.proofs.Count.{left, steps}
 use Rattle.write.proofs.RunLaws.{run-steps as run-counts}
-use Rattle.write.proofs.Verdicts.{refused-mild, step-underway}
+use Rattle.write.proofs.Verdicts.{step-underway}
 use Rattle.write.proofs.Cases.{going-on}
 use Rattle.write.proofs.Control.{Whole}
 use Rattle.write.proofs.Left.{step-lowers, left-idle, left-underway}
@@ -54,7 +55,7 @@ refused-alike :
 unfolding callOn entry
 refused-alike w Admitted e u = clash (step-underway (w .state .control) e) u
 refused-alike w (Refused a) e u =
-    let x = refused-mild (stepSigns 12 (w .state .control)) a e in
+    let x = refused-mild (stepSigns 12 (w .state .control)) refl a e in
     rw (e, going) (refl, refl, λ z. omega arith)
 
 -- ---- of any machine that is as the rules below the judgement, in good worlds that stay good

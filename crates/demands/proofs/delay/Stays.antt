@@ -19,13 +19,13 @@ use Rattle.read.specs.Machine.{slotCount, guardCount}
 use Rattle.read.specs.Handles.{smallest, bit}
 use Rattle.read.specs.Calls.{slotAt, createSigns}
 use Rattle.read.specs.Admission.{handleNumber}
+use Rattle.read.proofs.Verdicts.{admitted-unopposed}
 use Rattle.write.specs.declared.Opening.{Opening}
 use Rattle.write.specs.declared.Call.{Call}
 use Rattle.write.specs.declared.Call.the-variants.{Create, On, Append, Open, Step, Run}
 use Rattle.write.specs.Machine.{callRule}
 use Rattle.write.specs.World.{World, reply, answerOf, valueOf}
 use Rattle.write.specs.Numbers.{is, isRun}
-use Rattle.write.proofs.Verdicts.{admitted-unopposed}
 use Rattle.write.proofs.Cases.{by}
 use Rattle.demands.specs.Account.{Reader, Account, Move, withAt, lowest, inside, newReader, dropped, turned, opens, closes, readsEpoch, missed, spoke, unswapped, withPlan, advanced, ran, ifDeclined, noted}
 use Rattle.demands.specs.Table.{wantedValue, worth, worthOn}
@@ -145,9 +145,9 @@ module _ {w : World} {a : Account} (h : Tie w a) (i j : ℕ) where
   free-slot z =
       let f = seek (λ k. not (a .readers k .lives)) 0 slotCount in
       let signs = createSigns c f in
-      let v = admitted-zero (smallest signs) signs 0 refl
+      let v = admitted-zero (smallest signs) signs refl 0 refl
       (sym (wanted-create a c (h .steers) (whole h) f refl) ∙ sym (right h Create refl .answer) ∙ z) in
-      let lt = leb-false slotCount f (admitted-unopposed signs v .slots) in
+      let lt = leb-false slotCount f (admitted-unopposed signs v .1 .0) in
       subst (λ (x : ℕ). a .readers x .lives ≡ false) (sym (worth-is Create refl z)) (shut (a .readers f .lives) (seek-found (λ k. not (a .readers k .lives)) slotCount lt))
     where
       shut : (b : Bool) → not b ≡ true → b ≡ false

@@ -21,16 +21,16 @@ use Rattle.read.specs.declared.Handle.the-variants.{Drop, Enter, GoOn, Release,
 use Rattle.read.specs.declared.Job.the-variants as job
 use Rattle.read.specs.Machine.{logRoom, underway, isGone}
 use Rattle.read.specs.Admission.{column, entry, notNow}
-use Rattle.read.specs.Handles.{handleSigns, withDue}
+use Rattle.read.specs.Handles.{withDue}
 use Rattle.read.specs.Calls.{lent, slotAt}
 use Rattle.write.specs.Steps.{polling, at, withLog, operated}
 use Rattle.write.specs.Begins.{taking, logged, madeAtOnce, appendFirst, begun}
 use Rattle.write.specs.Runs.{snapAt, lift}
 use Rattle.write.specs.World.{World, worldOf}
-use Rattle.write.proofs.Verdicts.{Unopposed}
 use Rattle.write.proofs.Control.{some-slot}
+use Rattle.demands.proofs.Passed.{OnPassed}
 use Rattle.demands.proofs.Sides.{readCopy, writeCopy}
-use Rattle.demands.proofs.shown.Invariant.{Seen, Quiet, Stage, Inv, opsFrom, opsOf, reachAt, firstly, orAll}
+use Rattle.demands.proofs.shown.Invariant.{Seen, sight, Quiet, Stage, Inv, opsFrom, opsOf, reachAt, firstly, orAll}
 use Rattle.demands.proofs.shown.Slot.{within-same, twice-view, weaken}
 use Rattle.demands.proofs.shown.Unused.{clear-operated, clear-logged}
 use Rattle.demands.proofs.shown.Log.{length-ops, ops-logged}
@@ -61,7 +61,7 @@ own-rests p WasDropped e = in-time (underway p) e
 
 module _ {w : World} {t : Seen} (sound : SoundIn w) (inv : Inv w t) where
   -- slot 0 is not called on while a call of the writer is under way
-  pub own-quiet : (i : ℕ) (h : Handle) (s : Slot) → Unopposed (handleSigns (ctl w) (eqb i 0) (slotAt (w .state) i) h) → i ≡ 0 → underway (ctl w .phase) ≡ true → Quiet s
+  pub own-quiet : (i : ℕ) (h : Handle) (s : Slot) → OnPassed (ctl w) (eqb i 0) (slotAt (w .state) i) h → i ≡ 0 → underway (ctl w .phase) ≡ true → Quiet s
   own-quiet i h s u z r =
       clash r
       (own-rests (ctl w .phase) h
@@ -87,7 +87,7 @@ module _ {w : World} {t : Seen} (sound : SoundIn w) (inv : Inv w t) where
       op = record { kind = kind; key = key; amount = amount }
 
       abbrev grown : Seen
-      grown = record { accepted = t .accepted ++ (op ∷ []); atBegin = t .atBegin; published = t .published; loaded = t .loaded }
+      grown = sight (t .accepted ++ (op ∷ [])) (t .atBegin) (t .published) (t .loaded)
 
       pub first-keeps :
           ctl w .first ≡ true → lawful kind key amount ≡ true →
@@ -131,7 +131,7 @@ module _ {w : World} {t : Seen} (sound : SoundIn w) (inv : Inv w t) where
 
     -- a publish, a try or a take begins
     abbrev begins : Seen
-    begins = record { accepted = t .accepted; atBegin = t .accepted; published = t .published; loaded = t .loaded }
+    begins = sight (t .accepted) (t .accepted) (t .published) (t .loaded)
 
     open-step :
         {j : Job} {q : Phase} → Begins (ctl w) q → StageIn w t q j →

@@ -1,6 +1,6 @@
 -- A handle's four guards: what the searches over them say, and what a guard put among them changes. And the epoch's parity.
 use Prim.Native.Nat.{ℕ, _+_, _%_, _^_, _≤_, _<_}
-use mathlib.Core.Path.{_≡_, refl, sym, _∙_, subst}
+use mathlib.Core.Path.{_≡_, refl, sym, ap, _∙_, subst}
 use mathlib.Core.Logic.{_≢_}
 use mathlib.Core.Bool.{Bool, true, false, not, _&&_}
 use mathlib.Core.List.{List}
@@ -8,7 +8,7 @@ use native.Mathlib.Decide.{ℕ-discrete}
 use native.Mathlib.Omega.{arith}
 use lib.ListN.{length, getD, set, length-set}
 use lib.Seq.{getD-set-same, getD-set-other}
-use lib.Dec.{ltb}
+use lib.Dec.{eqb, ltb}
 use borrow.Author.Tests.{ltb-true, ltb-false, leb-false, eq-eqb, ne-eqb, lt-ltb}
 use Rattle.table.specs.Seek.{seek}
 use Rattle.table.proofs.Seek.{seek-before}
@@ -16,7 +16,6 @@ use Rattle.table.proofs.Split.{split}
 use Rattle.read.specs.declared.Guard.{Guard}
 use Rattle.read.specs.Machine.{guardCount, shut, noGuards, isOpen, standsRight, putGuard, firstGuard, anyOpen, allOpen}
 use Rattle.read.specs.Handles.{bumped}
-use Rattle.read.proofs.Parity.{odd-bumped as turned, odd-two as kept}
 use Rattle.demands.specs.Account.{withAt}
 use Rattle.demands.proofs.shown.Invariant.{odd}
 use Rattle.demands.proofs.Booleans.{clash, both}
@@ -29,12 +28,17 @@ not-self false e = clash e refl
 
 pub odd-bumped : (e : ℕ) → odd (bumped e) ≡ not (odd e)
 unfolding odd
-odd-bumped e = turned e
+odd-bumped e = elim (ℕ-discrete (e % 2) 1) [
+  | yes h ↦ simp (eq-eqb (e % 2) 1 h, ne-eqb (((e + 1) % 2 ^ 64) % 2) 1 (λ q. omega arith))
+  | no h ↦ simp (ne-eqb (e % 2) 1 h, eq-eqb (((e + 1) % 2 ^ 64) % 2) 1 (omega arith))
+]
 
 -- by two, as an append before the first swap does
 pub odd-twice : (e : ℕ) → odd ((e + 2) % 2 ^ 64) ≡ odd e
 unfolding odd
-odd-twice e = kept e
+odd-twice e =
+    let h : ((e + 2) % 2 ^ 64) % 2 ≡ e % 2 = omega arith in
+    ap (λ (x : ℕ). eqb x 1) h
 
 pub odd-zero : odd 0 ≡ false
 unfolding odd

@@ -18,12 +18,12 @@ use Rattle.read.specs.declared.Control.{Control}
 use Rattle.read.specs.Machine.{slotCount, noSlot, noGuards, logWords, isOpen, underway, isGone}
 use Rattle.read.specs.Handles.{copyOf}
 use Rattle.read.specs.Calls.{slotAt}
-use Rattle.write.specs.Steps.{ofLeft, ofRight, seen as sees}
+use Rattle.write.specs.Steps.{ofLeft, ofRight, seen}
 use Rattle.write.specs.Runs.{snapAt}
 use Rattle.write.specs.World.{World}
 use Rattle.demands.proofs.Sound.{SoundIn}
 use Rattle.demands.proofs.Sides.{readCopy, writeCopy}
-use Rattle.demands.proofs.shown.Invariant.{Seen, seen, Quiet, Reach, reachAt, orAll, firstly, View, ViewOf, ClearLog, Stage, Inv, opsFrom, opsOf}
+use Rattle.demands.proofs.shown.Invariant.{Seen, sight, Quiet, Reach, reachAt, orAll, firstly, View, ViewOf, ClearLog, Stage, Inv, opsFrom, opsOf}
 use Rattle.demands.proofs.shown.Unused.{KeepsClear, written-unused}
 use Rattle.demands.proofs.shown.Guards.{at-set, all-shut, none-open}
 use Rattle.demands.proofs.shown.Stages.{Stands, steered, onward}
@@ -107,7 +107,7 @@ module _ {w : World} {t : Seen} (sound : SoundIn w) (inv : Inv w t) where
   -- a call that changes slot i alone
   pub slot-keeps :
       (i : ℕ) → i < slotCount → (s : Slot) (ld : ℕ → ℕ → List Op) → ((k : ℕ) → k ≢ i → ld k ≡ t .loaded k) →
-      (i ≡ 0 → underway (ctl w .phase) ≡ true → Quiet s) → ViewOf w i (ld i) s → Inv (atSlot i s w) (seen (t .accepted) (t .atBegin) (t .published) ld)
+      (i ≡ 0 → underway (ctl w .phase) ≡ true → Quiet s) → ViewOf w i (ld i) s → Inv (atSlot i s w) (sight (t .accepted) (t .atBegin) (t .published) ld)
   slot-keeps i lt s ld same quiet v =
       let lt′ : i < length (w .state .slots) = omega (arith, sound .slots) in
       record {
@@ -126,7 +126,7 @@ module _ {w : World} {t : Seen} (sound : SoundIn w) (inv : Inv w t) where
   pub control-keeps :
       {null lock : Bool} {p : Phase} {j : Job} {bg : List Op} → ((i : ℕ) → ViewAs w t (reachAt p) i) →
       (underway p ≡ true → Quiet (slotAt (w .state) 0)) → (underway p ≡ true → bg ≡ t .accepted) → isGone p ≡ false →
-      StageIn w t p j → Inv (withControl (onward null lock p j (ctl w)) w) (seen (t .accepted) bg (t .published) (t .loaded))
+      StageIn w t p j → Inv (withControl (onward null lock p j (ctl w)) w) (sight (t .accepted) bg (t .published) (t .loaded))
   control-keeps v quiet bg stays stg = record {
     each = v;
     own = quiet;
@@ -145,7 +145,7 @@ module _ {w : World} {t : Seen} (sound : SoundIn w) (inv : Inv w t) where
       (underway p ≡ true → Quiet (slotAt (w .state) 0)) → (underway p ≡ true → t .atBegin ≡ acc) →
       Stage p j second s (opsFrom n 0 g) (readCopy w) x acc (t .published) (ctl w .first) →
       (isGone p ≡ true → g ≡ replicate logWords 0) →
-      Inv (wrote (steered null lock second p j n s (ctl w)) f g w) (seen acc (t .atBegin) (t .published) (t .loaded))
+      Inv (wrote (steered null lock second p j n s (ctl w)) f g w) (sight acc (t .atBegin) (t .published) (t .loaded))
   write-keeps {null} {lock} {second} {p} {j} {n} {s} {g} f x {acc} e clear log h in-reach quiet bg stg spent =
       let same = read-same (ctl w .right) f (w .left) (w .right) in
       let new = write-new (ctl w .right) f (w .left) (w .right) ∙ e in
@@ -164,7 +164,7 @@ module _ {w : World} {t : Seen} (sound : SoundIn w) (inv : Inv w t) where
       {null lock : Bool} {p : Phase} {j : Job} {h : Reach} (k : ℕ) → k < slotCount → Stands h p → h .cleared ≡ 0 → h .emptied ≡ 0 →
       ((i : ℕ) → i ≢ k → Within i h (reachAt (ctl w .phase))) →
       (underway p ≡ true → Quiet (slotAt (w .state) 0)) → (underway p ≡ true → t .atBegin ≡ t .accepted) → StageIn w t p j →
-      Inv (snapTo k (sees (slotAt (w .state) k) (snapAt (w .state) k)) (withControl (onward null lock p j (ctl w)) w)) t
+      Inv (snapTo k (seen (slotAt (w .state) k) (snapAt (w .state) k)) (withControl (onward null lock p j (ctl w)) w)) t
   snap-keeps {p = p} {h = h} k lt b c e in-reach quiet bg stg = record {
     each = subst
         (λ (a : Reach). (i : ℕ) → View (ctl w .right) (firstly (ctl w .first) a) i (getD (set (w .state .snapshots) k new) i 0) (w .left) (w .right) (t .loaded i) (slotAt (w .state) i))
@@ -181,7 +181,7 @@ module _ {w : World} {t : Seen} (sound : SoundIn w) (inv : Inv w t) where
   }
     where
       new : ℕ
-      new = sees (slotAt (w .state) k) (snapAt (w .state) k)
+      new = seen (slotAt (w .state) k) (snapAt (w .state) k)
 
       less : (f : Bool) → orAll f (h .cleared) ≤ orAll f (reachAt (ctl w .phase) .cleared)
       less true = le-refl slotCount

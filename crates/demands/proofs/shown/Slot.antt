@@ -20,12 +20,12 @@ use Rattle.read.specs.declared.Handle.{Handle}
 use Rattle.read.specs.declared.Handle.the-variants.{Drop, Enter, GoOn, Release, LookUp, WasDropped}
 use Rattle.read.specs.declared.Made.{Made}
 use Rattle.read.specs.Machine.{openOn, withReading, slotCount, guardCount, shut, isOpen, standsRight, putGuard, firstGuard, anyOpen, allOpen, isDue, isLoad, newSlot}
-use Rattle.read.specs.Handles.{withDue, freed, guarded, loaded, entered, wentOn, released, copyOf, mistimed, handleSigns, handled}
-use Rattle.read.specs.Admission.{column, entry}
+use Rattle.read.specs.Handles.{withDue, freed, guarded, loaded, entered, wentOn, released, copyOf, mistimed, handled}
+use Rattle.read.specs.Admission.{column, entry, handleNumber}
 use Rattle.write.specs.Steps.{holds, seen}
 use Rattle.write.proofs.Cases.{by}
-use Rattle.write.proofs.Verdicts.{Unopposed}
 use Rattle.demands.specs.Account.{withAt}
+use Rattle.demands.proofs.Passed.{OnPassed}
 use Rattle.demands.proofs.shown.Invariant.{odd, Shape, outside, announced, inside, Quiet, Reach, reach, before, firstly, Held, View}
 use Rattle.demands.proofs.shown.Guards.{not-self, odd-bumped, odd-twice, odd-zero, same-at, other-at, all-shut, open-below, some-open, none-open, has-room, put-four, at-put}
 use Rattle.demands.proofs.Booleans.{clash, or-false, lacks-none}
@@ -178,10 +178,10 @@ module _ (c : Control) {h : Reach} {i snap : ℕ} {l r : List ℕ} {f : ℕ → 
         let (od, sh) = waiting (v .shape) (rw e) in
         no-guards (v .four) (outside (odd-bumped (s .epoch) ∙ ap not od) refl sh) sh
 
-    timely : (own : Bool) (hd : Handle) → Unopposed (handleSigns c own s hd) → mistimed hd (s .due) ≡ false
+    timely : (own : Bool) (hd : Handle) → OnPassed c own s hd → mistimed (handleNumber hd) (s .due) ≡ false
     timely own hd u = or-false (eqb (entry (c .phase) (column hd own)) 6) _ (u .timely) .1
 
-    pub handled-view : (own : Bool) (hd : Handle) → Unopposed (handleSigns c own s hd) → Kept hd (handled c s hd l r)
+    pub handled-view : (own : Bool) (hd : Handle) → OnPassed c own s hd → Kept hd (handled c s hd l r)
     unfolding handled
     handled-view own Drop u = freed-view v (record { idle = timely own Drop u; alone = u .guards })
     handled-view own Enter u = entered-view (timely own Enter u) (u .fewer)

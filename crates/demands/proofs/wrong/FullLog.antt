@@ -1,22 +1,17 @@
 -- An append that is refused where one place is left in the log. So many appends are too long a history to compute: each is answered 0,
 -- since the demands say so, and then the log has one operation more.
-use Prim.Native.Nat.{ℕ, zero, suc, _+_, _-_, _≤_, _<_}
+use Prim.Native.Nat.{ℕ, zero, suc, _+_, _-_, _<_}
 use mathlib.Core.Path.{_≡_, refl, sym, ap, _∙_, subst, subst₂}
 use mathlib.Core.Bool.{Bool, true, false, _&&_, true≢false}
 use mathlib.Core.List.{List, [], _∷_, _++_}
 use native.Mathlib.Omega.{arith}
 use lib.Dec.{eqb, leb, lit≤}
 use borrow.Author.Tests.{eqb-false, leb-false, lt-leb}
-use Rattle.table.specs.declared.Answer.the-variants.{Length, Broken, LogFull}
-use Rattle.table.specs.Answers.{number}
-use Rattle.table.specs.Copy.{pairs, entries}
+use Rattle.table.specs.declared.Answer.the-variants.{LogFull}
 use Rattle.table.specs.Order.{Op}
 use Rattle.read.specs.declared.State.{State}
 use Rattle.read.specs.declared.Reply.{Reply}
-use Rattle.read.specs.declared.Control.{Control}
-use Rattle.read.specs.declared.Verdict.{Verdict}
-use Rattle.read.specs.declared.Verdict.the-variants.{Admitted, Refused}
-use Rattle.read.specs.Machine.{logRoom, sized, wholeControl, firstUnlawful, glanced, judged}
+use Rattle.read.specs.Machine.{logRoom, judged}
 use Rattle.read.specs.Calls.{Lent, lent, slotAt, refusal}
 use Rattle.write.specs.declared.Call.{Call}
 use Rattle.write.specs.declared.Call.the-variants.{Append}
@@ -29,6 +24,7 @@ use Rattle.demands.specs.Account.{Account, account, stored, noted}
 use Rattle.demands.specs.Table.{wanted}
 use Rattle.demands.specs.Demands.{Told, Demands, tell, telling, told, freshTold}
 use Rattle.demands.specs.KnownEnds.{publish}
+use Rattle.demands.proofs.refusal.Judged.{Grave, judged-grave}
 use Rattle.demands.proofs.wrong.Machines.{fullEarly}
 use Rattle.demands.proofs.wrong.Histories.{tells, differ}
 
@@ -36,24 +32,6 @@ use Rattle.demands.proofs.wrong.Histories.{tells, differ}
 
 abbrev add : Call
 add = Append 1 7 1
-
-abbrev Grave : Verdict → Type 0
-Grave Admitted = Unit {0}
-Grave (Refused a) = 1 ≤ number a
-
-judged-grave : (c : Control) (l r g : List ℕ) → Grave (judged c l r g)
-unfolding judged glanced
-judged-grave c l r g = go (sized l r g) (leb (entries l) pairs && (leb (entries r) pairs && wholeControl c)) (leb (c .length) (firstUnlawful (c .length) g))
-  where
-    look : Bool → Bool → Verdict
-    look x y = elim x [ true ↦ elim y [ true ↦ Admitted | false ↦ Refused Broken ] | false ↦ Refused Length ]
-
-    go : (x y z : Bool) →
-        Grave (elim (look x y) [ Admitted ↦ elim z [ true ↦ Admitted | false ↦ Refused Broken ] | Refused a ↦ Refused a ])
-    go true true true = tt
-    go true true false = lit≤ tt
-    go true false z = lit≤ tt
-    go false y z = lit≤ tt
 
 -- the log has one operation more, and is the log still
 abbrev Grows : State → Lent Reply → Type 0
