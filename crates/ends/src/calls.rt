@@ -21,6 +21,8 @@ pub struct World {
 // The numbers of a line's first word in the list below: up to here the calls, and then the parts that are shown and what is set up.
 const CALLS: usize = 22;
 
+const SLICES: usize = 27;
+
 const LENGTHS: usize = 30;
 
 const FRESH: usize = 31;
@@ -149,6 +151,14 @@ fn acted(
     }
 }
 
+// How many words a line is on: of a slice that is set up, all that there are.
+fn asked(k: usize, n: usize) -> usize {
+    if SLICES <= k && k < LENGTHS {
+        return SPACE;
+    }
+    n
+}
+
 // A line on as many words of each slice as are lent.
 fn lent(
     k: usize,
@@ -159,9 +169,9 @@ fn lent(
     log: &mut [u64],
 ) -> Reply {
     let st = w.state;
-    let a = slices::least(w.left, left.len());
-    let b = slices::least(w.right, right.len());
-    let c = slices::least(w.log, log.len());
+    let a = tell::least(asked(k, w.left), left.len());
+    let b = tell::least(asked(k, w.right), right.len());
+    let c = tell::least(asked(k, w.log), log.len());
     acted(k, line, st, &mut left[..a], &mut right[..b], &mut log[..c])
 }
 

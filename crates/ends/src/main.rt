@@ -4,15 +4,17 @@
 // of the rules is used for it.
 //
 // Calls: start, and the fourteen as in a schedule's text; on the left slice apply KIND KEY AMOUNT, add KEY AMOUNT, remove KEY, clear,
-// close-gap GAP WORDS, fill (each key of a full copy is added); leave SLOT GUARD, the release in place.
-// Parts that are shown: view SLOT GUARD, pair SLOT GUARD KEY; of the left slice find KEY, used; apart, the words in which right and
-// left differ.
-// Set up: fresh; left, right or log PATTERN WORD..; set FIELD NUMBER; phase NAME POSITION; slot NUMBER free|used EPOCH
-// none|load|restore GUARDS, a letter for each guard; snapshot NUMBER EPOCH; lengths LEFT RIGHT LOG. Other lines say what follows.
+// close-gap GAP WORDS, and fill, which adds every key of a full copy; leave SLOT GUARD, the release in place.
+// Parts: view SLOT GUARD, pair SLOT GUARD KEY; of the left slice find KEY and used; apart, in how many words left and right differ.
+// Set up: fresh; left, right or log with PATTERN WORD.., the words behind those given being zeros, nines, marks (each its place), full
+// (a full copy), logged (a log that is full but for one operation) or as they were; set FIELD NUMBER; phase NAME POSITION; slot NUMBER free|used EPOCH
+// none|load|restore GUARDS, a letter for each guard; snapshot NUMBER EPOCH; lengths LEFT RIGHT LOG.
+// Numbers are as in tell::number. Any other line is only written.
 mod calls;
 mod records;
 mod slices;
 
+use libc::STDIN_FILENO;
 use slices::SPACE;
 use tell::ROOM;
 
@@ -32,20 +34,12 @@ fn each_line(s: &[u8]) {
     }
 }
 
-fn first(s: &[u8], n: usize) {
-    if s.len() <= n {
-        tell::put(b"the cases are too long\n");
-        return;
-    }
-    each_line(&s[..n]);
-}
-
 fn cases(space: &[u8; ROOM], n: usize) {
-    first(space, n);
+    each_line(tell::text(space, n));
 }
 
 fn main() {
     let mut space = [0u8; ROOM];
-    let n = tell::read_cases(&mut space);
+    let n = tell::read_all(STDIN_FILENO, &mut space);
     cases(&space, n);
 }

@@ -17,7 +17,7 @@ use tell::word;
 
 const FIELDS: usize = 8;
 
-const FIELD_NAMES: [u8; 47] = *b"right null lock first second length swapped job";
+const FIELD_NAMES: [u8; 46] = *b"side null lock first second length swapped job";
 
 const PHASE_NAMES: [u8; 83] =
     *b"idle begin poll copy drain keep swap snap null lock last-snap last-poll finish gone";

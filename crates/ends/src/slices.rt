@@ -1,20 +1,9 @@
 // The lent words: what they are set up with, and calls on one slice.
 use table::Answer;
 use tell::word;
-ghost use Prim.Native.Nat.{_≤_};
 
 // A word more than a copy has, so that a longer slice can be lent.
 pub const SPACE: usize = table::WORDS + 1;
-
-// The smaller number: as many words as are lent, and no more than there are.
-pub fn least(n: usize, most: usize) -> usize
-    ensures { λ r. ⌜ r ≤ most ⌝ }
-{
-    if n < most {
-        return n;
-    }
-    most
-}
 
 // ---- patterns
 
@@ -36,8 +25,11 @@ fn full_at(i: usize) -> u64 {
     (i / 2) as u64
 }
 
-// A log in which every operation is an ADD of 1 to one of five keys.
+// A log that has room for one operation more: each is an ADD of 1 to one of five keys.
 fn logged_at(i: usize) -> u64 {
+    if read::LOG_WORDS - 3 <= i {
+        return 0;
+    }
     if i % 3 == 1 {
         return (i / 3 % 5) as u64;
     }

@@ -1,12 +1,11 @@
 // What the test programs share: lines of text, their words and numbers, words of a copy, and what is printed.
-use libc::STDIN_FILENO;
 use libc::STDOUT_FILENO;
 ghost use Prim.Native.Nat.{_+_, _≤_};
 ghost use mathlib.Core.Path.{_≡_};
 ghost use lib.ListN.{length};
 
-// The most that a program reads of its cases.
-pub const ROOM: usize = 65536;
+// One byte more than a text may have, so that a longer one is seen.
+pub const ROOM: usize = 400001;
 
 // Words that differ are listed up to this many; of more, their number and a digest are told.
 const LISTED: usize = 16;
@@ -31,9 +30,18 @@ pub fn say(text: &[u8], x: u64) {
 
 // ---- lines and words
 
-// All of standard input, up to the room that there is: how many bytes it has.
-pub fn read_cases(space: &mut [u8; ROOM]) -> usize {
-    io::read_full(STDIN_FILENO, space)
+// Reads a whole text, as far as there is room: how many bytes it has.
+pub fn read_all(fd: i32, space: &mut [u8; ROOM]) -> usize {
+    io::read_full(fd, space)
+}
+
+// The text that was read; no bytes where there was no room for it.
+pub fn text(s: &[u8], n: usize) -> &[u8] {
+    if s.len() <= n {
+        put(b"the text is too long\n");
+        return &s[..0];
+    }
+    &s[..n]
 }
 
 // The first place from `at` on where byte `b` stands, or the text's end.
@@ -173,6 +181,16 @@ pub fn value(s: &[u8], k: usize) -> u64 {
     number(word(s, k))
 }
 
+// The smaller number: as much as is asked for, and no more than there is.
+pub fn least(n: usize, most: usize) -> usize
+    ensures { λ r. ⌜ r ≤ most ⌝ }
+{
+    if n < most {
+        return n;
+    }
+    most
+}
+
 // ---- words of a copy
 
 // The word at a place, and zero past the end.
@@ -183,7 +201,8 @@ fn at(w: &[u64], i: usize) -> u64 {
     0
 }
 
-fn one_if(b: bool) -> usize
+// One for what holds: to count.
+pub fn one_if(b: bool) -> usize
     ensures { λ r. ⌜ r ≤ 1 ⌝ }
 {
     if b { 1 } else { 0 }

@@ -8,11 +8,20 @@ use borrow.Author.Needs.{needs}
 use Rattle.ends.proofs.calls.lent.Statement.{statement}
 use Rattle.ends.proofs.calls.lent.Tie as tie
 
+asked-requires : tie.Need-asked-requires
+asked-requires c κs = search needs
+
 least-requires : tie.Need-least-requires
 least-requires c κs = search needs
 
+asked-requires-2 : tie.Need-asked-requires-2
+asked-requires-2 c κs = search needs
+
 least-requires-2 : tie.Need-least-requires-2
 least-requires-2 c κs = search needs
+
+asked-requires-3 : tie.Need-asked-requires-3
+asked-requires-3 c κs = search needs
 
 least-requires-3 : tie.Need-least-requires-3
 least-requires-3 c κs = search needs
@@ -54,8 +63,11 @@ pub lent-spec : {M : Type 1} → statement M
 lent-spec =
     tie.close
     (tie.spec
+    asked-requires
     least-requires
+    asked-requires-2
     least-requires-2
+    asked-requires-3
     least-requires-3
     slice-relend-prefix-acted
     slice-aggregate-acted

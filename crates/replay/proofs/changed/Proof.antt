@@ -1,27 +1,24 @@
--- At most one is counted for each word.
+-- At most one is counted for each byte.
+use Prim.Native.Nat.{ℕ, _+_, _≤_, _<_, _-_}
 use lib.ListN.{length}
 use borrow.Author.Needs.{needs}
-use Prim.Native.Nat.{_≤_, _-_}
-use Rattle.read_ends.proofs.changed.Statement.{statement}
-use Rattle.read_ends.proofs.changed.Tie as tie
+use Rattle.replay.proofs.changed.Statement.{statement}
+use Rattle.replay.proofs.changed.Tie as tie
 
 abbrev Inv-loop : tie.InvT-loop
-Inv-loop w n₀ i₀ n i = (i ≤ length w) × (n ≤ i)
+Inv-loop out n₀ i₀ n i = (i ≤ length out) × (n ≤ i)
 
 abbrev μ-loop : tie.MeasureT-loop
-μ-loop w n₀ i₀ n i = length w - i
+μ-loop out n₀ i₀ n i = length out - i
 
 loop-holds : tie.Need-loop-holds Inv-loop μ-loop
 loop-holds c = search needs
 
-mul-apart : tie.Need-mul-apart Inv-loop μ-loop
-mul-apart c = search needs
+shared-slice-read-one-if : tie.Need-shared-slice-read-one-if Inv-loop μ-loop
+shared-slice-read-one-if c = search needs
 
-shared-slice-read-apart : tie.Need-shared-slice-read-apart Inv-loop μ-loop
-shared-slice-read-apart c = search needs
-
-apart-requires : tie.Need-apart-requires Inv-loop μ-loop
-apart-requires c κs = search needs
+one-if-requires : tie.Need-one-if-requires Inv-loop μ-loop
+one-if-requires c κs = search needs
 
 add-n : tie.Need-add-n Inv-loop μ-loop
 add-n c = search needs
@@ -45,9 +42,8 @@ changed-spec =
     Inv-loop
     μ-loop
     loop-holds
-    mul-apart
-    shared-slice-read-apart
-    apart-requires
+    shared-slice-read-one-if
+    one-if-requires
     add-n
     add-i
     loop-less
