@@ -18,7 +18,9 @@ pub struct World {
     log: usize,
 }
 
-// The numbers of a line's first word in the list below: up to here the calls, and then the parts that are shown and what is set up.
+// A line's first word has its number in the list of `kind`: 0 start, 1 to 14 the calls of a schedule, 15 to 20 calls on the left slice,
+// 21 the release in place, 22 to 26 parts that are shown, 27 to 29 a slice, 30 lengths and 31 a fresh machine that are set up, 32 to 35
+// parts of the state.
 const CALLS: usize = 22;
 
 const SLICES: usize = 27;

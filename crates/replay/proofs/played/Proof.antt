@@ -1,6 +1,4 @@
 -- As many bytes are lent as there are, or fewer.
-use Prim.Native.Nat.{ℕ, _+_, _≤_, _<_, _-_}
-use lib.ListN.{length}
 use native.Mathlib.Omega.{arith}
 use lib.Seq.{length-take-le}
 use mathlib.Core.Path.{sym}

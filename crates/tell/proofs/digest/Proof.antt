@@ -1,5 +1,5 @@
 -- The loop goes over every word.
-use Prim.Native.Nat.{ℕ, _+_, _≤_, _<_, _-_}
+use Prim.Native.Nat.{_≤_, _-_}
 use lib.ListN.{length}
 use borrow.Author.Needs.{needs}
 use Rattle.tell.proofs.digest.Statement.{statement}

@@ -1,5 +1,5 @@
 -- The lengths are equal, so that both have the byte.
-use Prim.Native.Nat.{ℕ, _+_, _≤_, _<_, _-_}
+use Prim.Native.Nat.{_≤_, _-_}
 use lib.ListN.{length}
 use borrow.Author.Needs.{needs}
 use Rattle.tell.proofs.same.Statement.{statement}

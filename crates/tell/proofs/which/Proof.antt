@@ -1,5 +1,5 @@
 -- Each turn goes behind the next blank, at most one place past the end.
-use Prim.Native.Nat.{ℕ, _+_, _≤_, _<_, _-_}
+use Prim.Native.Nat.{_+_, _≤_, _-_}
 use lib.ListN.{length}
 use borrow.Author.Needs.{needs}
 use Rattle.tell.proofs.which.Statement.{statement}

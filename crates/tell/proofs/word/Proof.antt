@@ -1,5 +1,5 @@
 -- The place stays within the line.
-use Prim.Native.Nat.{ℕ, _+_, _≤_, _<_, _-_}
+use Prim.Native.Nat.{_≤_, _-_}
 use lib.ListN.{length}
 use borrow.Author.Needs.{needs}
 use Rattle.tell.proofs.word.Statement.{statement}

@@ -1,6 +1,5 @@
 -- The loop goes over every field.
-use Prim.Native.Nat.{ℕ, _+_, _≤_, _<_, _-_}
-use lib.ListN.{length}
+use Prim.Native.Nat.{_≤_, _-_}
 use borrow.Author.Needs.{needs}
 use Rattle.ends.proofs.records.say_fields.Statement.{statement}
 use Rattle.ends.proofs.records.say_fields.Tie as tie

@@ -1,6 +1,5 @@
 -- The loop goes over every slot.
-use Prim.Native.Nat.{ℕ, _+_, _≤_, _<_, _-_}
-use lib.ListN.{length}
+use Prim.Native.Nat.{_≤_, _-_}
 use borrow.Author.Needs.{needs}
 use Rattle.read.specs.Machine.{slotTotal}
 use Rattle.ends.proofs.records.say_slots.Statement.{statement}

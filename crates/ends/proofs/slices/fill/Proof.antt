@@ -1,10 +1,9 @@
 -- An answer is a byte, so that the sum stays small.
-use Prim.Native.Nat.{ℕ, _+_, _≤_, _<_, _-_}
+use Prim.Native.Nat.{_≤_, _-_, _*_}
 use lib.ListN.{length}
 use borrow.Author.Needs.{needs}
 use Rattle.table.specs.Copy.{pairs}
 use mathlib.Core.Path.{_≡_}
-use Prim.Native.Nat.{_*_}
 use Rattle.ends.proofs.slices.fill.Statement.{statement}
 use Rattle.ends.proofs.slices.fill.Tie as tie
 
