@@ -15,7 +15,14 @@ use tell::value;
 use tell::which;
 use tell::word;
 
+// The control part as numbers: the fields that have a name here, and then the phase and its position.
+const NUMBERS: usize = 10;
+
 const FIELDS: usize = 8;
+
+const PHASE: usize = 8;
+
+const POSITION: usize = 9;
 
 const FIELD_NAMES: [u8; 46] = *b"side null lock first second length swapped job";
 
@@ -26,8 +33,8 @@ const USE_NAMES: [u8; 9] = *b"free used";
 
 const DUE_NAMES: [u8; 17] = *b"none load restore";
 
-// Where a phase has no position.
-const NOWHERE: usize = 18446744073709551615;
+// The position of a phase that has none.
+const NOWHERE: u64 = 18446744073709551615;
 
 fn bit(b: bool) -> u64 {
     if b { 1 } else { 0 }
@@ -53,7 +60,7 @@ fn job_of(x: u64) -> Job {
     }
 }
 
-fn row(p: Phase) -> usize {
+fn row(p: Phase) -> u64 {
     match p {
         Phase::Idle => 0,
         Phase::Begin => 1,
@@ -72,18 +79,18 @@ fn row(p: Phase) -> usize {
     }
 }
 
-fn position(p: Phase) -> usize {
+fn position(p: Phase) -> u64 {
     match p {
-        Phase::Poll(k) => k,
-        Phase::Keep(k) => k,
-        Phase::Snap(k) => k,
-        Phase::LastSnap(k) => k,
-        Phase::LastPoll(k) => k,
+        Phase::Poll(k) => k as u64,
+        Phase::Keep(k) => k as u64,
+        Phase::Snap(k) => k as u64,
+        Phase::LastSnap(k) => k as u64,
+        Phase::LastPoll(k) => k as u64,
         _ => NOWHERE,
     }
 }
 
-fn phase_of(row: usize, k: usize) -> Phase {
+fn phase_of(row: u64, k: usize) -> Phase {
     match row {
         0 => Phase::Idle,
         1 => Phase::Begin,
@@ -102,9 +109,9 @@ fn phase_of(row: usize, k: usize) -> Phase {
     }
 }
 
-// All but the phase, in the order of the names in `field`.
-fn numbers(c: Control) -> [u64; FIELDS] {
+fn numbers(c: Control) -> [u64; NUMBERS] {
     let j = c.job;
+    let p = c.phase;
     [
         bit(c.right),
         bit(c.null),
@@ -114,31 +121,23 @@ fn numbers(c: Control) -> [u64; FIELDS] {
         c.length as u64,
         c.swapped as u64,
         job_number(j),
+        row(p),
+        position(p),
     ]
 }
 
-fn control_of(n: [u64; FIELDS], p: Phase) -> Control {
+fn control_of(n: [u64; NUMBERS]) -> Control {
     Control {
         right: n[0] == 1,
         null: n[1] == 1,
         lock: n[2] == 1,
         first: n[3] == 1,
         second: n[4] == 1,
-        phase: p,
+        phase: phase_of(n[PHASE], n[POSITION] as usize),
         job: job_of(n[7]),
         length: n[5] as usize,
         swapped: n[6] as usize,
     }
-}
-
-// The control part with another number in one field.
-fn with_field(c: Control, j: usize, x: u64) -> Control {
-    let p = c.phase;
-    let mut n = numbers(c);
-    if j < FIELDS {
-        n[j] = x;
-    }
-    control_of(n, p)
 }
 
 fn say_field(j: usize, x: u64) {
@@ -147,7 +146,7 @@ fn say_field(j: usize, x: u64) {
     say(b" ", x);
 }
 
-fn say_fields(a: [u64; FIELDS], b: [u64; FIELDS]) {
+fn say_fields(a: [u64; NUMBERS], b: [u64; NUMBERS]) {
     let mut j = 0;
     while j < FIELDS {
         if a[j] != b[j] {
@@ -157,25 +156,19 @@ fn say_fields(a: [u64; FIELDS], b: [u64; FIELDS]) {
     }
 }
 
-fn say_phase(p: Phase, q: Phase) {
-    let k = position(q);
-    if row(p) == row(q) {
-        if position(p) == k {
-            return;
-        }
-    }
+fn say_phase(row: u64, k: u64) {
     put(b",");
-    put_name(&PHASE_NAMES, row(q));
+    put_name(&PHASE_NAMES, row as usize);
     if k != NOWHERE {
-        say(b" ", k as u64);
+        say(b" ", k);
     }
 }
 
-fn say_control(c: Control, d: Control) {
-    let p = c.phase;
-    let q = d.phase;
-    say_phase(p, q);
-    say_fields(numbers(c), numbers(d));
+fn say_control(a: [u64; NUMBERS], b: [u64; NUMBERS]) {
+    if a[PHASE] != b[PHASE] || a[POSITION] != b[POSITION] {
+        say_phase(b[PHASE], b[POSITION]);
+    }
+    say_fields(a, b);
 }
 
 // ---- a slot
@@ -323,14 +316,8 @@ fn say_slots(st: State, after: State) {
 pub fn say_state(st: State, after: State) {
     let c = st.control;
     let d = after.control;
-    say_control(c, d);
+    say_control(numbers(c), numbers(d));
     say_slots(st, after);
-}
-
-fn with_control(st: State, c: Control) -> State {
-    let mut after = st;
-    after.control = c;
-    after
 }
 
 pub fn with_slot(st: State, i: usize, s: Slot) -> State {
@@ -353,18 +340,29 @@ fn with_snapshot(st: State, i: usize, x: u64) -> State {
     after
 }
 
+fn with_numbers(st: State, n: [u64; NUMBERS]) -> State {
+    let c = control_of(n);
+    let mut after = st;
+    after.control = c;
+    after
+}
+
 fn set_field(st: State, line: &[u8]) -> State {
     let c = st.control;
-    with_control(
-        st,
-        with_field(c, which(&FIELD_NAMES, word(line, 1)), value(line, 2)),
-    )
+    let mut n = numbers(c);
+    let j = which(&FIELD_NAMES, word(line, 1));
+    if j < FIELDS {
+        n[j] = value(line, 2);
+    }
+    with_numbers(st, n)
 }
 
 fn set_phase(st: State, line: &[u8]) -> State {
     let c = st.control;
-    let p = phase_of(which(&PHASE_NAMES, word(line, 1)), value(line, 2) as usize);
-    with_control(st, control_of(numbers(c), p))
+    let mut n = numbers(c);
+    n[PHASE] = which(&PHASE_NAMES, word(line, 1)) as u64;
+    n[POSITION] = value(line, 2);
+    with_numbers(st, n)
 }
 
 // A line that sets up a part of the state.
