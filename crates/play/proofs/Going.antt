@@ -199,21 +199,21 @@ idle-held p j held u = idle-cases (λ p. halt p j true ≡ halt p j held) refl r
 
 -- it is over, and said this
 pub record Said (o : Lent Reply) (f : Far) (c : Control) (ss : List Slot) (es l r g : List ℕ) : Type 0 where
-  pub answer : answerOf o ≡ number (f .answer)
+  pub answer : answerOf o ≡ f .answer
   pub value : valueOf o ≡ f .value
   pub world : worldOf o ≡ machine (stateOf c ss es) l r g
 
 pub said :
     {o : Lent Reply} {f : Far} {a : Answer} {v : ℕ} {c : Control} {ss : List Slot} {es l r g : List ℕ} →
-    o ≡ lent (record { answer = a; value = v; state = stateOf c ss es }) l r g → a ≡ f .answer → v ≡ f .value → Said o f c ss es l r g
-said e x y = record { answer = ap answerOf e ∙ ap number x; value = ap valueOf e ∙ y; world = ap worldOf e }
+    o ≡ lent (record { answer = a; value = v; state = stateOf c ss es }) l r g → number a ≡ f .answer → v ≡ f .value → Said o f c ss es l r g
+said e x y = record { answer = ap answerOf e ∙ x; value = ap valueOf e ∙ y; world = ap worldOf e }
 
 -- the same of other names
 pub said-as :
     {o : Lent Reply} {f h : Far} {c d : Control} {ss ts : List Slot} {es fs l r g l' r' g' : List ℕ} → Said o h d ts fs l' r' g' → l ≡ l' → r ≡ r' → g ≡ g' →
     c ≡ d → ss ≡ ts → es ≡ fs → f ≡ h → Said o f c ss es l r g
 said-as q l r g c ss es f = record {
-  answer = q .answer ∙ ap (λ (f : Far). number (f .answer)) (sym f);
+  answer = q .answer ∙ ap (λ (f : Far). f .answer) (sym f);
   value = q .value ∙ ap (λ (f : Far). f .value) (sym f);
   world = q .world ∙ sym (λ i. machine (stateOf (c i) (ss i) (es i)) (l i) (r i) (g i));
 }

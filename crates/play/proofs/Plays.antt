@@ -7,7 +7,6 @@ use mathlib.Core.List.{List, [], _++_, append-assoc, append-nil}
 use native.Mathlib.Omega.{arith}
 use lib.ListN.{length, getD, set, take, drop, length-append, length-drop, take-append-drop}
 use lib.Seq.{length-take-le, take-at, drop-append-add, drop-drop}
-use Rattle.table.specs.Answers.{number}
 use Rattle.read.specs.declared.Control.{Control}
 use Rattle.read.specs.declared.Slot.{Slot}
 use Rattle.read.specs.declared.State.{State}
@@ -18,7 +17,6 @@ use Rattle.read.specs.Calls.{Lent, lent}
 use Rattle.write.specs.declared.Moved.{Moved}
 use Rattle.write.specs.declared.Call.{Call}
 use Rattle.write.specs.Numbers.{isStep, isRun, slotOf}
-use Rattle.write.specs.Runs.{lift}
 use Rattle.write.specs.Machine.{callOn, callRule}
 use Rattle.write.specs.World.{World, worldOf, answerOf, valueOf, Played, answering, played}
 use Rattle.write.proofs.Judged.{judged-good}
@@ -27,24 +25,21 @@ use Rattle.play.specs.declared.turns.Far.{Far}
 use Rattle.play.specs.declared.Reached.{Reached}
 use Rattle.play.specs.Schedule.{recordBytes, decoded, callsFrom, callsIn}
 use Rattle.play.specs.Player.{entryBytes, entryOf, entriesOf, transcript, machine}
-use Rattle.play.specs.Turns.{within, turnOn, over}
-use Rattle.play.proofs.Turned.{sought, turn-made}
+use Rattle.play.specs.Turns.{turnOn, over}
+use Rattle.play.proofs.Turned.{sought, within, putSlot, turn-made}
 use Rattle.play.proofs.Going.{Said, said}
 use Rattle.read.proofs.Cases.{stateOf}
 
--- a call that takes one turn: what its move says, slot and snapshot being put back
+-- a call that takes one turn: what its move says, its slot being put back
 pub turn-said :
-    (k : Call) → (isStep k || isRun k) ≡ false → (c : Control) (ss : List Slot) (es l r g : List ℕ) {i j : ℕ} → i ≡ sought k ss (slotOf k) →
-    j ≡ within i → {s : Slot} → s ≡ getD ss j noSlot → {m : Moved} {l' r' g' : List ℕ} →
-    lent m l' r' g' ≡ turnOn k i c s (getD es j 0) l r g →
-    Said (callOn k (stateOf c ss es) l r g) (over m) (m .control) (set ss j (m .slot)) (set es j (m .snapshot)) l' r' g'
-turn-said k p c ss es l r g {i} {j} e f q x =
+    (k : Call) → (isStep k || isRun k) ≡ false → (c : Control) (ss : List Slot) (es l r g : List ℕ) {i : ℕ} → i ≡ sought k ss (slotOf k) →
+    {s : Slot} → s ≡ getD ss (within i) noSlot → {m : Moved} {l' r' g' : List ℕ} → lent m l' r' g' ≡ turnOn k i c s l r g →
+    Said (callOn k (stateOf c ss es) l r g) (over m) (m .control) (set ss (within i) (m .slot)) es l' r' g'
+turn-said k p c ss es l r g {i} e q x =
     let st = stateOf c ss es in
     said
-    (turn-made st l r g k p
-    ∙ ap (λ (i : ℕ). lift (within i) st (turnOn k i c (getD ss (within i) noSlot) (getD es (within i) 0) l r g)) (sym e)
-    ∙ ap (λ (j : ℕ). lift j st (turnOn k i c (getD ss j noSlot) (getD es j 0) l r g)) (sym f)
-    ∙ ap (λ (s : Slot). lift j st (turnOn k i c s (getD es j 0) l r g)) (sym q) ∙ ap (lift j st) (sym x))
+    (turn-made st l r g k p ∙ ap (λ (i : ℕ). putSlot (within i) st (turnOn k i c (getD ss (within i) noSlot) l r g)) (sym e)
+    ∙ ap (λ (s : Slot). putSlot (within i) st (turnOn k i c s l r g)) (sym q) ∙ ap (putSlot (within i) st) (sym x))
     refl refl
 
 -- ---- before a turn
@@ -103,10 +98,10 @@ module _ {s out₀ whole : List ℕ} {end : World} {out : List ℕ} {from to : �
     here = machine (stateOf c ss es) l r g
 
     -- behind the last record
-    module _ (b : length s - from < recordBytes) where
+    module _ (b : recordBytes * (length s / recordBytes) ≤ from) where
       none : rest s from here ≡ record { replies = []; world = here }
       unfolding played
-      none = ap (λ (n : ℕ). played callRule (callsFrom s from n) here) (let z : remain s from ≡ 0 = omega arith in z)
+      none = ap (λ (n : ℕ). played callRule (callsFrom s from n) here) (let z : remain s from ≡ 0 = omega (arith, p .used) in z)
 
       written : to ≡ length whole
       unfolding entriesOf
@@ -128,11 +123,14 @@ module _ {s out₀ whole : List ℕ} {end : World} {out : List ℕ} {from to : �
       plays-reached =
           let e : here ≡ end = ap (λ (q : Played). q .world) (sym none) ∙ p .ends in
           let u : from ≡ recordBytes * (length s / recordBytes) =
-          (let z : remain s from ≡ 0 = omega arith in omega (arith, p .used, z)) in
+          (omega (arith, p .used)) in
           λ j. lent {A = Reached} (record { state = e j .state; used = u j; written = written j }) (e j .left) (e j .right) (e j .log)
 
     -- a record is at hand
-    module _ (b : recordBytes ≤ length s - from) where
+    module _ (b : from < recordBytes * (length s / recordBytes)) where
+      pub plays-record : from + recordBytes ≤ length s
+      plays-record = omega (arith, p .used)
+
       abbrev call : Call
       call = decoded s from
 
@@ -143,7 +141,7 @@ module _ {s out₀ whole : List ℕ} {end : World} {out : List ℕ} {from to : �
       more = callsFrom s (from + recordBytes) (remain s (from + recordBytes))
 
       one-more : remain s from ≡ suc (remain s (from + recordBytes))
-      one-more = omega arith
+      one-more = omega (arith, plays-record)
 
       opens : rest s from here ≡ answering (answerOf reply) (valueOf reply) (played callRule more (worldOf reply))
       unfolding played
@@ -156,15 +154,15 @@ module _ {s out₀ whole : List ℕ} {end : World} {out : List ℕ} {from to : �
 
       pub plays-next :
           {f : Far} {d : Control} {ts : List Slot} {fs l' r' g' : List ℕ} → Said (callOn call (stateOf c ss es) l r g) f d ts fs l' r' g' →
-          (out' : List ℕ) → out' ≡ take to out ++ (entryOf (number (f .answer)) (f .value) ++ drop (to + entryBytes) out) →
+          (out' : List ℕ) → out' ≡ take to out ++ (entryOf (f .answer) (f .value) ++ drop (to + entryBytes) out) →
           Plays s out₀ whole end out' (from + recordBytes) (to + entryBytes) d ts fs l' r' g'
       unfolding entriesOf
       plays-next {f} {d} {ts} {fs} {l'} {r'} {g'} q out' w =
           let e : Said reply f d ts fs l' r' g' =
           subst (λ (o : Lent Reply). Said o f d ts fs l' r' g') (sym (call-made call (stateOf c ss es) l r g (p .sound))) q in
           let next : World = machine (stateOf d ts fs) l' r' g' in
-          let entry : List ℕ = entryOf (number (f .answer)) (f .value) in
-          let opened : rest s from here ≡ answering (number (f .answer)) (f .value) (rest s (from + recordBytes) next) =
+          let entry : List ℕ = entryOf (f .answer) (f .value) in
+          let opened : rest s from here ≡ answering (f .answer) (f .value) (rest s (from + recordBytes) next) =
           opens ∙ (λ j. answering (e .answer j) (e .value j) (played callRule more (e .world j))) in
           let fit : to + entryBytes ≤ length out = plays-room in
           let head : List ℕ = take to out ++ entry in
@@ -177,7 +175,7 @@ module _ {s out₀ whole : List ℕ} {end : World} {out : List ℕ} {from to : �
           let z : to + entryBytes + (length whole - (to + entryBytes)) ≡ length whole = omega (arith, many) in
           record {
             sound = subst (λ (w : World). Sound (w .state) (w .left) (w .right) (w .log)) (e .world) (sound-call call (stateOf c ss es) l r g (p .sound));
-            upto = omega arith;
+            upto = omega (arith, plays-record);
             used = omega (arith, p .used, one-more);
             sized =
                 ap length x ∙ length-append head (drop (to + entryBytes) out)

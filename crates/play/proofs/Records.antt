@@ -9,8 +9,10 @@ use lib.Dec.{eqb, leb}
 use lib.ListN.{length, getD}
 use Rattle.table.proofs.Split.{split}
 use Rattle.play.specs.declared.Flaw.{Flaw}
-use Rattle.play.specs.Schedule.{headBytes, recordBytes, count, startOf, marked, versionOf, unknownAt, firstUnknown}
+use Rattle.play.specs.Schedule.{callsBy, callOf, headBytes, recordBytes, count, startOf, marked, versionOf, unknownAt, firstUnknown}
 use Rattle.play.specs.Player.{flaw, flawOf}
+use Rattle.write.specs.declared.Call.the-variants.{Run}
+use Rattle.play.specs.declared.schedule.Fields.{Fields}
 
 -- ---- the mark
 
@@ -87,3 +89,7 @@ pub flawless-within : (s : List ℕ) → flawOf s .answer ≡ 0 → startOf (cou
 flawless-within s h =
     split (marked s) (λ m. records-within s m)
     (λ m. absurd (eqb-false 21 0 refl (sym (ap (λ (f : Flaw). f .answer) (flaw-unmarked s m)) ∙ h)))
+
+-- a record's call by its number, from 0 on
+pub by-number : (f : Fields) (n : ℕ) → f .call - 1 ≡ n → getD (callsBy f) n Run ≡ callOf f
+by-number f n e = sym (ap (λ (k : ℕ). getD (callsBy f) k Run) e)

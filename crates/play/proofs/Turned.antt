@@ -1,13 +1,14 @@
 -- A call that takes one turn: where its search for a slot ends, and that its move, put back, is what the machine gives.
-use Prim.Native.Nat.{ℕ, _+_, _-_, _<_}
+use Prim.Native.Nat.{ℕ, _+_, _-_, _%_, _^_, _<_}
 use mathlib.Core.Path.{_≡_, refl, sym, ap, _∙_}
-use mathlib.Core.Bool.{Bool, true, false, not, _||_, true≢false}
+use mathlib.Core.Bool.{Bool, true, false, not, _&&_, _||_, true≢false}
 use mathlib.Core.List.{List}
 use native.Mathlib.Omega.{arith}
-use borrow.Author.Tests.{lt-ltb, lt-leb, ltb-true, ltb-false, leb-true, leb-false}
+use borrow.Author.Tests.{lt-ltb, ltb-true, ltb-false, leb-true, leb-false}
 use lib.Dec.{eqb, ltb, leb}
 use lib.ListN.{length, getD, set}
 use lib.Seq.{set-getD}
+use Rattle.table.specs.Copy.{lawful}
 use Rattle.table.specs.Seek.{seek}
 use Rattle.table.specs.declared.Answer.{Answer}
 use Rattle.table.specs.declared.Answer.the-variants as answer
@@ -19,20 +20,23 @@ use Rattle.read.specs.declared.Slot.{Slot}
 use Rattle.read.specs.declared.State.{State}
 use Rattle.read.specs.declared.Reply.{Reply}
 use Rattle.read.specs.declared.Verdict.{Verdict}
-use Rattle.read.specs.declared.Verdict.the-variants.{Admitted}
+use Rattle.read.specs.declared.Verdict.the-variants.{Admitted, Refused}
 use Rattle.read.proofs.Cases.{reply-past, reply-in, create-refused, create-made}
-use Rattle.read.specs.Machine.{slotTotal, slotCount, noSlot, newSlot}
-use Rattle.read.specs.Handles.{smallest, handleOn}
+use Rattle.read.specs.Machine.{slotTotal, slotCount, logRoom, noSlot, newSlot}
+use Rattle.read.specs.Handles.{smallest, withDue, handleOn}
 use Rattle.read.specs.Calls.{Lent, lent, slotAt, refusal, createReply, handleReply}
 use Rattle.write.specs.declared.Call.{Call}
 use Rattle.write.specs.declared.Call.the-variants.{Create, On, Append, Open, Step, Run}
 use Rattle.write.specs.declared.Moved.{Moved}
+use Rattle.write.specs.declared.Opening.{Opening}
+use Rattle.write.specs.declared.Opening.the-variants as opening
 use Rattle.write.specs.Numbers.{isStep, isRun, slotOf}
-use Rattle.write.specs.Steps.{refused}
+use Rattle.write.specs.Steps.{refused, withLog, ofLeft, ofRight, operated}
+use Rattle.write.specs.Begins.{writerSigns, logged, madeAtOnce, appendOn, columnOf, begun, value, opened, openOn}
 use Rattle.write.specs.Runs.{snapAt, lift}
 use Rattle.write.specs.Machine.{callOn}
 use Rattle.write.proofs.RunLaws.{getD-any}
-use Rattle.play.specs.Turns.{within, passes, waits, movedAs, turnOn}
+use Rattle.play.specs.Turns.{passes, waits, movedAs, turnOn}
 use Rattle.read.proofs.Verdicts.{given}
 
 -- ---- the search
@@ -49,8 +53,15 @@ sought (Open o) ss i = i
 sought Step ss i = i
 sought Run ss i = i
 
+-- any slot stands for one that is not there
+abbrev pub within : ℕ → ℕ
+within i = i % slotTotal
+
 pub within-here : (i : ℕ) → i < slotTotal → within i ≡ i
-within-here i h = rw (lt-leb slotTotal i h, within)
+within-here i h = omega arith
+
+pub within-below : (i : ℕ) → within i < slotTotal
+within-below i = omega arith
 
 module _ (ss : List Slot) (i : ℕ) {s : Slot} (e : s ≡ getD ss (within i) noSlot) where
   abbrev passing : Bool → Bool → Bool
@@ -107,123 +118,175 @@ pub read-slot : (ss : List Slot) {j : ℕ} (d : Slot) → length ss ≡ slotCoun
 unfolding slotCount
 read-slot ss {j} d n h = getD-any ss j d noSlot (omega arith)
 
-pub read-within :
-    (ss : List Slot) (i : ℕ) {j : ℕ} (d : Slot) → length ss ≡ slotCount → (j ≡ within i) × (j < slotTotal) → getD ss j d ≡ getD ss (within i) noSlot
-read-within ss i d n h = read-slot ss d n (h .1) ∙ ap (λ (j : ℕ). getD ss j noSlot) (h .0)
-
 -- ---- the turn
 
-module _ (st : State) (l r g : List ℕ) where
-  -- a slot and a snapshot that were only read
-  pub unput : (i : ℕ) (a : Answer) → lift i st (lent (refused a (st .control) (slotAt st i) (snapAt st i)) l r g) ≡ lent (refusal a st) l r g
-  unput i a =
-      λ j.
-      lent
-      (record {
-        answer = a;
-        value = 0;
-        state =
-            record {
-              control = st .control;
-              slots = set-getD (st .slots) i noSlot j;
-              snapshots = set-getD (st .snapshots) i 0 j;
-            };
-      })
-      l r g
+-- a move at slot i, of which the snapshot stays
+abbrev pub putSlot : ℕ → State → Lent Moved → Lent Reply
+putSlot i st m =
+    lent
+    (record {
+      answer = m .made .answer;
+      value = m .made .value;
+      state =
+          record { control = m .made .control; slots = set (st .slots) i (m .made .slot); snapshots = st .snapshots };
+    })
+    (m .left) (m .right) (m .log)
 
-  -- a slot that is put back, and a snapshot that was only read
-  slotted :
-      (i : ℕ) (a : Answer) (v : ℕ) (s : Slot) → i < slotTotal →
-      lent
-      (record { answer = a; value = v; state = record { control = st .control; slots = set (st .slots) i s; snapshots = st .snapshots } })
-      l r g
-      ≡ lift (within i) st (lent (movedAs a v (st .control) s (snapAt st (within i))) l r g)
-  slotted i a v s h =
-      (λ j.
+module _ (st : State) where
+  -- a snapshot that was only read
+  kept :
+      (i : ℕ) (a : Answer) (v : ℕ) (c : Control) (s : Slot) (l r g : List ℕ) →
+      lift i st (lent (record { answer = a; value = v; control = c; slot = s; snapshot = snapAt st i }) l r g)
+      ≡ putSlot i st (lent (movedAs a v c s) l r g)
+  kept i a v c s l r g =
+      λ j.
       lent
       (record {
         answer = a;
         value = v;
         state =
-            record {
-              control = st .control;
-              slots = set (st .slots) i s;
-              snapshots = sym (set-getD (st .snapshots) i 0) j;
-            };
+            record { control = c; slots = set (st .slots) i s; snapshots = set-getD (st .snapshots) i 0 j };
       })
-      l r g)
-      ∙ ap (λ (k : ℕ). lift k st (lent (movedAs a v (st .control) s (snapAt st k)) l r g)) (sym (within-here i h))
+      l r g
 
-  abbrev turned : Call → ℕ → Lent Reply
-  turned k i = lift (within i) st (turnOn k i (st .control) (slotAt st (within i)) (snapAt st (within i)) l r g)
+  module _ (l r g : List ℕ) where
+    -- and a slot
+    unslot : (i : ℕ) (a : Answer) → putSlot i st (lent (movedAs a 0 (st .control) (slotAt st i)) l r g) ≡ lent (refusal a st) l r g
+    unslot i a =
+        λ j.
+        lent
+        (record {
+          answer = a;
+          value = 0;
+          state =
+              record { control = st .control; slots = set-getD (st .slots) i noSlot j; snapshots = st .snapshots };
+        })
+        l r g
 
-  module _ (i : ℕ) where
+    pub unput : (i : ℕ) (a : Answer) → lift i st (lent (refused a (st .control) (slotAt st i) (snapAt st i)) l r g) ≡ lent (refusal a st) l r g
+    unput i a = kept i a 0 (st .control) (slotAt st i) l r g ∙ unslot i a
+
+    -- ---- append and the beginnings
+
     abbrev c : Control
     c = st .control
 
-    abbrev put : Moved → Lent Reply
-    put m = lift (within i) st (lent m l r g)
+    abbrev first : Slot
+    first = slotAt st 0
 
-    abbrev own : Slot
-    own = slotAt st (within i)
+    module _ (kind key amount : ℕ) where
+      abbrev appends : Verdict → Bool → Bool → ℕ → Lent Moved
+      appends v early room e =
+          let f = operated kind key amount in
+          elim v [
+            | Admitted ↦
+                elim early [
+                  | true ↦
+                      lent (madeAtOnce c (withDue ((first .epoch + 2) % 2 ^ 64) (first .due) first) e) (ofLeft (c .right) f l)
+                      (ofRight (c .right) f r) g
+                  | false ↦
+                      elim room [
+                        | true ↦ lent (madeAtOnce (withLog (c .length + 1) (c .swapped) c) first e) l r (logged (c .length) kind key amount g)
+                        | false ↦ lent (refused answer.LogFull c first e) l r g
+                      ]
+                ]
+            | Refused a ↦ lent (refused a c first e) l r g
+          ]
 
-    abbrev snap : ℕ
-    snap = snapAt st (within i)
+      append-kept :
+          (v : Verdict) (early room : Bool) → lift 0 st (appends v early room (snapAt st 0)) ≡ putSlot 0 st (appends v early room 0)
+      append-kept Admitted true room = kept 0 _ _ _ _ _ _ _
+      append-kept Admitted false true = kept 0 _ _ _ _ _ _ _
+      append-kept Admitted false false = kept 0 _ _ _ _ _ _ _
+      append-kept (Refused a) early room = kept 0 _ _ _ _ _ _ _
 
-    -- the lock's refusal comes before that of full slots
-    abbrev verdict : Bool → Bool → Verdict
-    verdict waiting full = given waiting answer.Locked (given full answer.SlotsFull Admitted)
+    flush-kept :
+        (b : Bool) →
+        lift 0 st (lent (elim b [ true ↦ value 1 (begun c) first (snapAt st 0) | false ↦ value 0 c first (snapAt st 0) ]) l r g)
+        ≡ putSlot 0 st (lent (elim b [ true ↦ value 1 (begun c) first 0 | false ↦ value 0 c first 0 ]) l r g)
+    flush-kept true = kept 0 _ _ _ _ _ _ _
+    flush-kept false = kept 0 _ _ _ _ _ _ _
 
-    abbrev creates : Bool → Bool → Moved
-    creates waiting full =
-        elim waiting [
-          | true ↦ refused answer.Locked c own snap
-          | false ↦ elim full [ true ↦ refused answer.SlotsFull c own snap | false ↦ movedAs answer.Done i c newSlot snap ]
-        ]
+    opened-kept : (o : Opening) → lift 0 st (lent (opened o c first (snapAt st 0)) l r g) ≡ putSlot 0 st (lent (opened o c first 0) l r g)
+    unfolding opened
+    opened-kept opening.Publish = kept 0 _ _ _ _ _ _ _
+    opened-kept opening.Try = kept 0 _ _ _ _ _ _ _
+    opened-kept opening.Flush = flush-kept (ltb (c .swapped) (c .length))
+    opened-kept opening.Take = kept 0 _ _ _ _ _ _ _
 
-    created-by :
-        (w f : Bool) → waits c ≡ w → leb slotTotal i ≡ f → lent (createReply i st) l r g ≡ put (creates w f)
-    unfolding smallest slotCount
-    created-by true f x y =
-        ap (λ (a : Reply). lent a l r g) (create-refused i st answer.Locked (ap (λ (b : Bool). verdict b (leb slotTotal i)) x))
-        ∙ sym (unput (within i) answer.Locked)
-    created-by false true x y =
-        ap (λ (a : Reply). lent a l r g) (create-refused i st answer.SlotsFull (λ j. verdict (x j) (y j)))
-        ∙ sym (unput (within i) answer.SlotsFull)
-    created-by false false x y =
-        ap (λ (a : Reply). lent a l r g) (create-made i st (λ j. verdict (x j) (y j)))
-        ∙ slotted i answer.Done i newSlot (leb-false slotTotal i y)
+    open-kept :
+        (o : Opening) (v : Verdict) →
+        lift 0 st (lent (elim v [ Admitted ↦ opened o c first (snapAt st 0) | Refused a ↦ refused a c first (snapAt st 0) ]) l r g)
+        ≡ putSlot 0 st (lent (elim v [ Admitted ↦ opened o c first 0 | Refused a ↦ refused a c first 0 ]) l r g)
+    open-kept o Admitted = opened-kept o
+    open-kept o (Refused a) = kept 0 _ _ _ _ _ _ _
 
-    abbrev touches : Handle → Bool → Moved
-    touches h past =
-        let m = handleOn c (eqb i 0) own h l r in
-        elim past [ true ↦ refused answer.NoSlot c own snap | false ↦ movedAs (m .answer) (m .value) c (m .slot) snap ]
+    -- ---- create, and a call on a handle
 
-    touched-by : (h : Handle) (f : Bool) → leb slotTotal i ≡ f → lent (handleReply i h l r st) l r g ≡ put (touches h f)
-    unfolding slotCount
-    touched-by h true y =
-        ap (λ (a : Reply). lent a l r g) (reply-past i h l r st (leb-true slotTotal i y)) ∙ sym (unput (within i) answer.NoSlot)
-    touched-by h false y =
-        let b = leb-false slotTotal i y in
-        ap (λ (a : Reply). lent a l r g) (reply-in i h l r st b)
-        ∙ ap
-        (λ (s : Slot).
-        (let m = handleOn c (eqb i 0) s h l r in
-        lent
-        (record { answer = m .answer; value = m .value; state = record { control = c; slots = set (st .slots) i (m .slot); snapshots = st .snapshots } })
-        l r g))
-        (ap (slotAt st) (sym (within-here i b)))
-        ∙ (let m = handleOn c (eqb i 0) own h l r in slotted i (m .answer) (m .value) (m .slot) b)
+    -- where there is such a slot
+    slotted :
+        (i : ℕ) (a : Answer) (v : ℕ) (s : Slot) → i < slotTotal →
+        putSlot i st (lent (movedAs a v c s) l r g) ≡ putSlot (within i) st (lent (movedAs a v c s) l r g)
+    slotted i a v s h = ap (λ (j : ℕ). putSlot j st (lent (movedAs a v c s) l r g)) (sym (within-here i h))
 
-  pub turn-made :
-      (k : Call) → (isStep k || isRun k) ≡ false → callOn k st l r g ≡ turned k (sought k (st .slots) (slotOf k))
-  unfolding callOn turnOn
-  turn-made Create p =
-      let i = sought Create (st .slots) 0 in
-      ap (λ (n : ℕ). lent (createReply (seek (isFree (st .slots)) 0 n) st) l r g) (omega arith)
-      ∙ created-by i (waits (st .control)) (leb slotTotal i) refl refl
-  turn-made (On i h) p = touched-by i h (leb slotTotal i) refl
-  turn-made (Append kind key amount) p = refl
-  turn-made (Open o) p = refl
-  turn-made Step p = absurd (true≢false p)
-  turn-made Run p = absurd (true≢false p)
+    module _ (i : ℕ) where
+      abbrev put : Moved → Lent Reply
+      put m = putSlot (within i) st (lent m l r g)
+
+      abbrev own : Slot
+      own = slotAt st (within i)
+
+      -- the lock's refusal comes before that of full slots
+      abbrev verdict : Bool → Bool → Verdict
+      verdict waiting full = given waiting answer.Locked (given full answer.SlotsFull Admitted)
+
+      abbrev creates : Bool → Bool → Moved
+      creates waiting full =
+          elim waiting [
+            | true ↦ movedAs answer.Locked 0 c own
+            | false ↦ elim full [ true ↦ movedAs answer.SlotsFull 0 c own | false ↦ movedAs answer.Done i c newSlot ]
+          ]
+
+      created-by : (w f : Bool) → waits c ≡ w → leb slotTotal i ≡ f → lent (createReply i st) l r g ≡ put (creates w f)
+      unfolding smallest slotCount
+      created-by true f x y =
+          ap (λ (a : Reply). lent a l r g) (create-refused i st answer.Locked (ap (λ (b : Bool). verdict b (leb slotTotal i)) x))
+          ∙ sym (unslot (within i) answer.Locked)
+      created-by false true x y =
+          ap (λ (a : Reply). lent a l r g) (create-refused i st answer.SlotsFull (λ j. verdict (x j) (y j)))
+          ∙ sym (unslot (within i) answer.SlotsFull)
+      created-by false false x y =
+          ap (λ (a : Reply). lent a l r g) (create-made i st (λ j. verdict (x j) (y j)))
+          ∙ slotted i answer.Done i newSlot (leb-false slotTotal i y)
+
+      abbrev touches : Handle → Slot → Bool → Moved
+      touches h s past =
+          let m = handleOn c (eqb i 0) s h l r in
+          elim past [ true ↦ movedAs answer.NoSlot 0 c s | false ↦ movedAs (m .answer) (m .value) c (m .slot) ]
+
+      touched-by : (h : Handle) (f : Bool) → leb slotTotal i ≡ f → lent (handleReply i h l r st) l r g ≡ put (touches h own f)
+      unfolding slotCount
+      touched-by h true y =
+          ap (λ (a : Reply). lent a l r g) (reply-past i h l r st (leb-true slotTotal i y)) ∙ sym (unslot (within i) answer.NoSlot)
+      touched-by h false y =
+          let b = leb-false slotTotal i y in
+          ap (λ (a : Reply). lent a l r g) (reply-in i h l r st b)
+          ∙ ap (λ (j : ℕ). putSlot j st (lent (touches h (slotAt st j) false) l r g)) (sym (within-here i b))
+
+    pub turn-made :
+        (k : Call) → (isStep k || isRun k) ≡ false →
+        (let i = sought k (st .slots) (slotOf k) in
+        callOn k st l r g ≡ putSlot (within i) st (turnOn k i c (slotAt st (within i)) l r g))
+    unfolding callOn turnOn appendOn openOn
+    turn-made Create p =
+        let i = sought Create (st .slots) 0 in
+        ap (λ (n : ℕ). lent (createReply (seek (isFree (st .slots)) 0 n) st) l r g) (omega arith)
+        ∙ created-by i (waits c) (leb slotTotal i) refl refl
+    turn-made (On i h) p = touched-by i h (leb slotTotal i) refl
+    turn-made (Append kind key amount) p =
+        append-kept kind key amount
+        (smallest (writerSigns 7 (not (lawful kind key amount)) (not (c .first) && leb logRoom (c .length)) c first)) (c .first)
+        (ltb (c .length) logRoom)
+    turn-made (Open o) p = open-kept o (smallest (writerSigns (columnOf o) false false c first))
+    turn-made Step p = absurd (true≢false p)
+    turn-made Run p = absurd (true≢false p)

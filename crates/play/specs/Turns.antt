@@ -21,14 +21,10 @@ use Rattle.write.specs.declared.Moved.{Moved}
 use Rattle.write.specs.declared.Call.{Call}
 use Rattle.write.specs.declared.Call.the-variants.{Create, On, Append, Open, Step, Run}
 use Rattle.write.specs.Begins.{appendOn, openOn}
-use Rattle.write.specs.Steps.{refused, holds}
+use Rattle.write.specs.Steps.{holds}
 use Rattle.play.specs.declared.turns.Far.{Far}
 
 -- ---- a call that takes one turn
-
--- the first slot stands for one that is not there: nothing of it is changed
-abbrev pub within : ℕ → ℕ
-within i = elim (leb slotTotal i) [ true ↦ 0 | false ↦ i ]
 
 -- a create passes a slot that is in use
 abbrev pub passes : Call → ℕ → Slot → Bool
@@ -43,31 +39,32 @@ passes Run i s = false
 abbrev pub waits : Control → Bool
 waits c = eqb (entry (c .phase) createColumn) (number answer.Locked)
 
-abbrev pub movedAs : Answer → ℕ → Control → Slot → ℕ → Moved
-movedAs a v c s e = record { answer = a; value = v; control = c; slot = s; snapshot = e }
+-- the snapshot is not looked at, and stays
+abbrev pub movedAs : Answer → ℕ → Control → Slot → Moved
+movedAs a v c s = record { answer = a; value = v; control = c; slot = s; snapshot = 0 }
 
 -- i is the first free slot, or none is free
-abbrev pub created : ℕ → Control → Slot → ℕ → Moved
-created i c s e =
+abbrev pub created : ℕ → Control → Slot → Moved
+created i c s =
     elim (waits c) [
-      | true ↦ refused answer.Locked c s e
-      | false ↦ elim (leb slotTotal i) [ true ↦ refused answer.SlotsFull c s e | false ↦ movedAs answer.Done i c newSlot e ]
+      | true ↦ movedAs answer.Locked 0 c s
+      | false ↦ elim (leb slotTotal i) [ true ↦ movedAs answer.SlotsFull 0 c s | false ↦ movedAs answer.Done i c newSlot ]
     ]
 
 -- a call on the handle in slot i
-abbrev pub touched : ℕ → Handle → Control → Slot → ℕ → List ℕ → List ℕ → Moved
-touched i h c s e l r =
+abbrev pub touched : ℕ → Handle → Control → Slot → List ℕ → List ℕ → Moved
+touched i h c s l r =
     let m = handleOn c (eqb i 0) s h l r in
-    elim (leb slotTotal i) [ true ↦ refused answer.NoSlot c s e | false ↦ movedAs (m .answer) (m .value) c (m .slot) e ]
+    elim (leb slotTotal i) [ true ↦ movedAs answer.NoSlot 0 c s | false ↦ movedAs (m .answer) (m .value) c (m .slot) ]
 
 -- step and run are made apart
-unfoldable pub turnOn : Call → ℕ → Control → Slot → ℕ → List ℕ → List ℕ → List ℕ → Lent Moved
-turnOn Create i c s e l r g = lent (created i c s e) l r g
-turnOn (On j h) i c s e l r g = lent (touched i h c s e l r) l r g
-turnOn (Append kind key amount) i c s e l r g = appendOn kind key amount c s e l r g
-turnOn (Open o) i c s e l r g = lent (openOn o c s e) l r g
-turnOn Step i c s e l r g = lent (refused answer.NotNow c s e) l r g
-turnOn Run i c s e l r g = lent (refused answer.NotNow c s e) l r g
+unfoldable pub turnOn : Call → ℕ → Control → Slot → List ℕ → List ℕ → List ℕ → Lent Moved
+turnOn Create i c s l r g = lent (created i c s) l r g
+turnOn (On j h) i c s l r g = lent (touched i h c s l r) l r g
+turnOn (Append kind key amount) i c s l r g = appendOn kind key amount c s 0 l r g
+turnOn (Open o) i c s l r g = lent (openOn o c s 0) l r g
+turnOn Step i c s l r g = lent (movedAs answer.NotNow 0 c s) l r g
+turnOn Run i c s l r g = lent (movedAs answer.NotNow 0 c s) l r g
 
 -- ---- step and run, step by step
 
@@ -99,7 +96,7 @@ abbrev pub haltOf : Control → Slot → ℕ → Answer
 haltOf c s e = halt (c .phase) (c .job) (holds s e)
 
 abbrev pub far : Bool → Answer → ℕ → Far
-far goes a v = record { goes = goes; answer = a; value = v }
+far goes a v = record { goes = goes; answer = number a; value = v }
 
 -- n steps are made, and the next is at hand
 abbrev pub facing : ℕ → Answer → Far

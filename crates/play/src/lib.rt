@@ -4,6 +4,7 @@ mod transcript;
 mod turns;
 
 use read::LOG_WORDS;
+use read::SLOTS;
 use read::State;
 use schedule::HEAD;
 use schedule::RECORD;
@@ -44,7 +45,7 @@ pub struct Reached {
 }
 
 // Plays the whole records of a part, which has no head, on a machine that is whole. A turn of the loop is a record, and looks at one
-// slot, which is copied out and in; a run's steps are turns of their own.
+// slot, which is copied out and in; a run's steps are turns of their own. Only a step changes a snapshot.
 fn play_on(
     st: State,
     s: &[u8],
@@ -59,9 +60,10 @@ fn play_on(
     let mut c = st.control;
     let mut slots = st.slots;
     let mut snaps = st.snapshots;
+    let end = RECORD * (s.len() / RECORD);
     let mut from = 0;
     let mut to = 0;
-    while RECORD <= s.len() - from {
+    while from < end {
         let call = schedule::decode(s, from);
         let mut far = turns::none();
         if turns::is_going(call) {
@@ -83,19 +85,18 @@ fn play_on(
             }
         } else {
             let mut i = turns::named(call);
-            while turns::passes(call, i, slots[turns::within(i)]) {
+            while turns::passes(call, i, slots[i % SLOTS]) {
                 i += 1;
             }
-            let k = turns::within(i);
-            let m = turns::turn(call, i, c, slots[k], snaps[k], left, right, log);
+            // Any slot stands for one that is not there: it is left as it is.
+            let k = i % SLOTS;
+            let m = turns::turn(call, i, c, slots[k], left, right, log);
             let own = m.slot;
             slots[k] = own;
-            snaps[k] = m.snapshot;
             c = m.control;
             far = turns::over(m);
         }
-        let a = far.answer;
-        transcript::put(out, to, table::number(a), far.value);
+        transcript::put(out, to, far.answer, far.value);
         from += RECORD;
         to += ENTRY;
     }

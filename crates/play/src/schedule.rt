@@ -72,48 +72,66 @@ pub fn count(s: &[u8]) -> usize
     (s.len() - HEAD) / RECORD
 }
 
-// What a record's fields mean, by the call's number.
+// What a record's fields mean: a handle's call, 2 to 7.
+fn of_handle(f: Fields) -> Call
+    requires { ⌜ (2 ≤ f .call) × (f .call < 8) ⌝ }
+    ensures { λ r. ⌜ r ≡ callOf f ⌝ }
+{
+    let call = f.call;
+    if call == 2 {
+        return Call::On(f.slot, Handle::Drop);
+    }
+    if call == 3 {
+        return Call::On(f.slot, Handle::Enter);
+    }
+    if call == 4 {
+        return Call::On(f.slot, Handle::GoOn);
+    }
+    if call == 5 {
+        return Call::On(f.slot, Handle::Release(f.guard));
+    }
+    if call == 6 {
+        return Call::On(f.slot, Handle::LookUp(f.guard, f.key));
+    }
+    Call::On(f.slot, Handle::WasDropped)
+}
+
+// A beginning, 9 to 12.
+fn of_opening(f: Fields) -> Call
+    requires { ⌜ (9 ≤ f .call) × (f .call < 13) ⌝ }
+    ensures { λ r. ⌜ r ≡ callOf f ⌝ }
+{
+    let call = f.call;
+    if call == 9 {
+        return Call::Open(Opening::Publish);
+    }
+    if call == 10 {
+        return Call::Open(Opening::Try);
+    }
+    if call == 11 {
+        return Call::Open(Opening::Flush);
+    }
+    Call::Open(Opening::Take)
+}
+
+// Any call.
 fn call_of(f: Fields) -> Call
     ensures { λ r. ⌜ r ≡ callOf f ⌝ }
 {
     let call = f.call;
-    if call < 2 {
-        return Call::Create;
-    }
-    if call < 3 {
-        return Call::On(f.slot, Handle::Drop);
-    }
-    if call < 4 {
-        return Call::On(f.slot, Handle::Enter);
-    }
-    if call < 5 {
-        return Call::On(f.slot, Handle::GoOn);
-    }
-    if call < 6 {
-        return Call::On(f.slot, Handle::Release(f.guard));
-    }
-    if call < 7 {
-        return Call::On(f.slot, Handle::LookUp(f.guard, f.key));
-    }
     if call < 8 {
-        return Call::On(f.slot, Handle::WasDropped);
+        if call < 2 {
+            return Call::Create;
+        }
+        return of_handle(f);
     }
-    if call < 9 {
+    if call == 8 {
         return Call::Append(f.kind, f.key, f.amount);
     }
-    if call < 10 {
-        return Call::Open(Opening::Publish);
-    }
-    if call < 11 {
-        return Call::Open(Opening::Try);
-    }
-    if call < 12 {
-        return Call::Open(Opening::Flush);
-    }
     if call < 13 {
-        return Call::Open(Opening::Take);
+        return of_opening(f);
     }
-    if call < 14 {
+    if call == 13 {
         return Call::Step;
     }
     Call::Run

@@ -17,11 +17,10 @@ use write::steps;
 ghost use mathlib.Core.Path.{_≡_};
 ghost use mathlib.Core.Bool.{_||_};
 ghost use Prim.Native.Nat.{_<_, _^_};
-ghost use Rattle.read.specs.Machine.{slotTotal};
 ghost use Rattle.read.specs.Calls.{lent};
 ghost use Rattle.write.specs.Numbers.{isStep, isRun, slotOf};
 ghost use Rattle.write.specs.Steps.{refused, holds};
-ghost use Rattle.play.specs.Turns.{passes as passesRule, within as withinRule, waits as waitsRule, movedAs, created, touched, turnOn, halt as haltRule, haltOf, far as farRule, facing as facingRule, over as overRule, ranOn, wentOn};
+ghost use Rattle.play.specs.Turns.{passes as passesRule, waits as waitsRule, movedAs, created, touched, turnOn, halt as haltRule, haltOf, far as farRule, facing as facingRule, over as overRule, ranOn, wentOn};
 
 // ---- a call that takes one turn
 
@@ -37,13 +36,6 @@ pub(crate) fn named(call: Call) -> usize
         Call::Step => 0,
         Call::Run => 0,
     }
-}
-
-// The first slot stands for one that is not there: nothing of it is changed.
-pub(crate) fn within(i: usize) -> usize
-    ensures { λ r. ⌜ (r ≡ withinRule i) × (r < slotTotal) ⌝ }
-{
-    if SLOTS <= i { 0 } else { i }
 }
 
 // A create passes a slot that is in use.
@@ -68,91 +60,82 @@ fn waits(c: Control) -> bool
     admission::entry(p, 0) == table::number(Answer::Locked)
 }
 
-fn moved_as(a: Answer, value: u64, c: Control, s: Slot, e: u64) -> Moved
-    ensures { λ r. ⌜ r ≡ movedAs a value c s e ⌝ }
+fn moved_as(a: Answer, value: u64, c: Control, s: Slot) -> Moved
+    ensures { λ r. ⌜ r ≡ movedAs a value c s ⌝ }
 {
     Moved {
         answer: a,
         value: value,
         control: c,
         slot: s,
-        snapshot: e,
+        snapshot: 0,
     }
 }
 
 // Create, slot `i` being the first free one, or none.
-fn create(i: usize, c: Control, s: Slot, e: u64) -> Moved
-    ensures { λ r. ⌜ r ≡ created i c s e ⌝ }
+fn create(i: usize, c: Control, s: Slot) -> Moved
+    ensures { λ r. ⌜ r ≡ created i c s ⌝ }
 {
     if waits(c) {
-        return moved_as(Answer::Locked, 0, c, s, e);
+        return moved_as(Answer::Locked, 0, c, s);
     }
     if SLOTS <= i {
-        return moved_as(Answer::SlotsFull, 0, c, s, e);
+        return moved_as(Answer::SlotsFull, 0, c, s);
     }
-    moved_as(Answer::Done, i as u64, c, guards::new_slot(), e)
+    moved_as(Answer::Done, i as u64, c, guards::new_slot())
 }
 
 // A call on the handle in slot `i`.
-fn touch<'a>(
-    i: usize,
-    h: Handle,
-    c: Control,
-    s: Slot,
-    e: u64,
-    left: &'a [u64],
-    right: &'a [u64],
-) -> Moved
-    ensures { λ r. ⌜ r ≡ touched i h c s e (now (left .entry)) (now (right .entry)) ⌝ }
+fn touch<'a>(i: usize, h: Handle, c: Control, s: Slot, left: &'a [u64], right: &'a [u64]) -> Moved
+    ensures { λ r. ⌜ r ≡ touched i h c s (now (left .entry)) (now (right .entry)) ⌝ }
 {
     if SLOTS <= i {
-        return moved_as(Answer::NoSlot, 0, c, s, e);
+        return moved_as(Answer::NoSlot, 0, c, s);
     }
     let m = handles::handle(c, i == 0, s, h, left, right);
     let answer = m.answer;
     let slot = m.slot;
-    moved_as(answer, m.value, c, slot, e)
+    moved_as(answer, m.value, c, slot)
 }
 
-// A call at slot `i`. Step and run are made apart.
+// A call at slot `i`, whose snapshot none of these calls looks at or changes. Step and run are made apart.
 pub(crate) fn turn(
     call: Call,
     i: usize,
     c: Control,
     s: Slot,
-    e: u64,
     left: &mut [u64],
     right: &mut [u64],
     log: &mut [u64],
 ) -> Moved
-    ensures { λ r. ⌜ lent r (now (left .exit)) (now (right .exit)) (now (log .exit)) ≡ turnOn call i c s e (now (left .entry)) (now (right .entry)) (now (log .entry)) ⌝ }
+    ensures { λ r. ⌜ lent r (now (left .exit)) (now (right .exit)) (now (log .exit)) ≡ turnOn call i c s (now (left .entry)) (now (right .entry)) (now (log .entry)) ⌝ }
 {
     match call {
-        Call::Create => create(i, c, s, e),
-        Call::On(_, h) => touch(i, h, c, s, e, &left[..], &right[..]),
+        Call::Create => create(i, c, s),
+        Call::On(_, h) => touch(i, h, c, s, &left[..], &right[..]),
         Call::Append(kind, key, amount) => begins::append_on(
             kind,
             key,
             amount,
             c,
             s,
-            e,
+            0,
             left,
             right,
             log,
         ),
-        Call::Open(o) => begins::open_on(o, c, s, e),
-        Call::Step => moved_as(Answer::NotNow, 0, c, s, e),
-        Call::Run => moved_as(Answer::NotNow, 0, c, s, e),
+        Call::Open(o) => begins::open_on(o, c, s, 0),
+        Call::Step => moved_as(Answer::NotNow, 0, c, s),
+        Call::Run => moved_as(Answer::NotNow, 0, c, s),
     }
 }
 
 // ---- step and run, step by step
 
-// How far a call has come: whether it goes on, and what it says: for a run that goes on, how many steps it made.
+// How far a call has come: whether it goes on, and its answer's number and value; while a run goes on, how many steps it made.
 pub(crate) struct Far {
     pub goes: bool,
-    pub answer: Answer,
+    pub answer: u8,
     pub value: u64,
 }
 
@@ -223,7 +206,7 @@ fn far_of(goes: bool, a: Answer, value: u64) -> Far
 {
     Far {
         goes: goes,
-        answer: a,
+        answer: table::number(a),
         value: value,
     }
 }

@@ -1,13 +1,12 @@
 -- Before a record the output holds the entries of those before it, and the rest gives what is missing (`Plays`). Before a step its call is
 -- on its way (`Going`), and before a slot that a create may pass its search ends where it would from the first. Each way through the
 -- body is one law.
-use Prim.Native.Nat.{ℕ, _+_, _-_, _<_}
+use Prim.Native.Nat.{_-_, _<_}
 use mathlib.Core.Path.{_≡_, sym, ap, subst, _∙_}
-use mathlib.Core.List.{_++_}
 use mathlib.Core.Logic.{⊎-elim}
 use native.Mathlib.Omega.{arith}
 use borrow.Author.Needs.{needs}
-use lib.ListN.{length, getD, take, drop, length-map}
+use lib.ListN.{length, getD, length-map}
 use Rattle.read.specs.declared.Slot.{Slot}
 use Rattle.read.specs.Machine.{slotTotal, slotCount, noSlot, place}
 use Rattle.write.specs.declared.Call.{Call}
@@ -17,34 +16,34 @@ use Rattle.write.specs.World.{played}
 use Rattle.write.proofs.NeverBroken.{Sound}
 use Rattle.write.proofs.Turns.{place-below}
 use Rattle.play.specs.Schedule.{decoded, callsIn}
-use Rattle.play.specs.Player.{entryBytes, entryOf, transcript, machine}
-use Rattle.play.proofs.Turned.{sought, passes-below, sought-next, sought-here, read-slot, read-within}
+use Rattle.play.specs.Player.{transcript, machine}
+use Rattle.play.proofs.Turned.{sought, passes-below, sought-next, sought-here, within-below, read-slot}
 use Rattle.play.proofs.Going.{Said, Goes, Going, going-begins, going-steps, sound-after, next-slot, said-as, ahead, ahead-less}
-use Rattle.play.proofs.Plays.{Plays, plays-start, plays-room, plays-next, plays-end, plays-reached, sound-judged, turn-said}
+use Rattle.play.proofs.Plays.{Plays, plays-start, plays-record, plays-room, plays-next, plays-end, plays-reached, sound-judged, turn-said}
 use Rattle.play.proofs.play_on.Statement.{statement}
 use Rattle.play.proofs.play_on.Tie as tie
 use Rattle.read.proofs.Cases.{stateOf}
 
 abbrev Inv-loop2 : tie.InvT-loop2
-Inv-loop2 s out left₀ right₀ log₀ c₀ slots₀ snaps₀ from to call far₀ k₀ left right log c slots snaps far k =
+Inv-loop2 s out left₀ right₀ log₀ c₀ slots₀ snaps₀ end from to call far₀ k₀ left right log c slots snaps far k =
     Going (callOn call (stateOf c₀ slots₀ snaps₀) left₀ right₀ log₀) (isRun call) far c slots snaps left right log × (k ≡ place (c .phase))
 
 abbrev μ-loop2 : tie.MeasureT-loop2
-μ-loop2 s out left₀ right₀ log₀ c₀ slots₀ snaps₀ from to call far₀ k₀ left right log c slots snaps far k = ahead far c
+μ-loop2 s out left₀ right₀ log₀ c₀ slots₀ snaps₀ end from to call far₀ k₀ left right log c slots snaps far k = ahead far c
 
 abbrev Inv-loop3 : tie.InvT-loop3
-Inv-loop3 s out left right log c slots snaps from to call i₀ i = sought call slots i ≡ sought call slots (slotOf call)
+Inv-loop3 s out left right log c slots snaps end from to call i₀ i = sought call slots i ≡ sought call slots (slotOf call)
 
 abbrev μ-loop3 : tie.MeasureT-loop3
-μ-loop3 s out left right log c slots snaps from to call i₀ i = slotTotal - i
+μ-loop3 s out left right log c slots snaps end from to call i₀ i = slotTotal - i
 
 abbrev Inv-loop : tie.InvT-loop
-Inv-loop s out₀ left₀ right₀ log₀ c₀ slots₀ snaps₀ from₀ to₀ out left right log c slots snaps from to =
+Inv-loop s out₀ left₀ right₀ log₀ c₀ slots₀ snaps₀ end from₀ to₀ out left right log c slots snaps from to =
     let w = machine (stateOf c₀ slots₀ snaps₀) left₀ right₀ log₀ in
     Plays s out₀ (transcript (callsIn s) w) (played callRule (callsIn s) w .world) out from to c slots snaps left right log
 
 abbrev μ-loop : tie.MeasureT-loop
-μ-loop s out₀ left₀ right₀ log₀ c₀ slots₀ snaps₀ from₀ to₀ out left right log c slots snaps from to = length s - from
+μ-loop s out₀ left₀ right₀ log₀ c₀ slots₀ snaps₀ end from₀ to₀ out left right log c slots snaps from to = length s - from
 
 -- the machine that is handed in
 begins : (a : tie.Start Inv-loop2 μ-loop2 Inv-loop3 μ-loop3 Inv-loop μ-loop) → Sound (a .args .st) (a .args .left .now) (a .args .right .now) (a .args .log .now)
@@ -79,11 +78,11 @@ placed-next c =
     place-below (sound-after (going e) (v .0 .sound) (v .1) (own e _) (c .before .before .before .before .before .before .before .before .before .before .advance .ensures) .good .whole) (c .place2 .ensures)
 
 -- the slot that a create may pass is there
-below : (c : tie.Then2 Inv-loop2 μ-loop2 Inv-loop3 μ-loop3 Inv-loop μ-loop) → c .before .before .before .before .loop3 .i < slotTotal
+below : (c : tie.Then2 Inv-loop2 μ-loop2 Inv-loop3 μ-loop3 Inv-loop μ-loop) → c .before .before .before .loop3 .i < slotTotal
 below c =
-    let v = c .before .before .before .before .before .before .before .before .before .before .before .loop in
-    passes-below (v .slots) (c .before .before .before .before .loop3 .i) (read-within (v .slots) (c .before .before .before .before .loop3 .i) _ (v .inv .sound .slots) (c .before .before .before .within .ensures)) (c .before .before .before .before .before .before .before .before .before .decode .result)
-    (sym (c .before .passes .ensures) ∙ c .if2 .taken)
+    let v = c .before .before .before .before .before .before .before .before .before .before .loop in
+    let i = c .before .before .before .loop3 .i in
+    passes-below (v .slots) i (read-slot (v .slots) _ (v .inv .sound .slots) (within-below i)) (c .before .before .before .before .before .before .before .before .decode .result) (sym (c .before .passes .ensures) ∙ c .if2 .taken)
 
 -- what the record's call said, by either way
 says : (j : tie.Joined1 Inv-loop2 μ-loop2 Inv-loop3 μ-loop3 Inv-loop μ-loop) →
@@ -102,12 +101,12 @@ says j =
     (⊎-elim
     (λ w. said-as (w .4 .inv .0 .ends (w .5 .left)) (w .6) (w .7) (w .8) (w .9) (w .10) (w .11) (w .12))
     (λ w.
-    let n = v .inv .sound .slots in
-    let q = sought-here (v .slots) (w .2 .i) (read-within (v .slots) (w .2 .i) _ n (w .3 .ensures)) (d .result) (sym (w .5 .ensures) ∙ w .6 .left) in
+    let s = read-slot (v .slots) _ (v .inv .sound .slots) (within-below (w .2 .i)) in
+    let q = sought-here (v .slots) (w .2 .i) s (d .result) (sym (w .4 .ensures) ∙ w .5 .left) in
     said-as
-    (turn-said (d .result) (sym p ∙ w .0 .left) (v .c) (v .slots) (v .snaps) (v .left) (v .right) (v .log) (sym q ∙ w .2 .inv) (w .7 .ensures .0)
-    (read-slot (v .slots) _ n (w .7 .ensures .1)) (w .12 .ensures))
-    (w .22) (w .23) (w .24) (w .25) (w .26) (w .27) (w .28 ∙ w .21 .ensures))
+    (turn-said (d .result) (sym p ∙ w .0 .left) (v .c) (v .slots) (v .snaps) (v .left) (v .right) (v .log) (sym q ∙ w .2 .inv)
+    (read-slot (v .slots) _ (v .inv .sound .slots) (within-below (w .2 .i))) (w .10 .ensures))
+    (w .20) (w .21) (w .22) (w .23) (w .24) (w .25) (w .26 ∙ w .19 .ensures))
     (f .came))
 
 loop-holds : tie.Need-loop-holds Inv-loop2 μ-loop2 Inv-loop3 μ-loop3 Inv-loop μ-loop
@@ -117,11 +116,8 @@ loop-holds c =
     plays-start (a .args .s .now) (a .args .out .now) (a .args .st) (a .args .left .now) (a .args .right .now) (a .args .log .now) (begins a)
     (a .pre .1)
 
-sub-loop : tie.Need-sub-loop Inv-loop2 μ-loop2 Inv-loop3 μ-loop3 Inv-loop μ-loop
-sub-loop c = omega (arith, c .loop .inv .upto)
-
 decode-requires : tie.Need-decode-requires Inv-loop2 μ-loop2 Inv-loop3 μ-loop3 Inv-loop μ-loop
-decode-requires c κs = omega (arith, c .before .loop .inv .upto, c .loop-test .taken)
+decode-requires c κs = plays-record (c .before .loop .inv) (c .loop-test .taken)
 
 none-requires : tie.Need-none-requires Inv-loop2 μ-loop2 Inv-loop3 μ-loop3 Inv-loop μ-loop
 none-requires c κs = search needs
@@ -210,11 +206,8 @@ named-requires c κs = search needs
 loop3-holds : tie.Need-loop3-holds Inv-loop2 μ-loop2 Inv-loop3 μ-loop3 Inv-loop μ-loop
 loop3-holds c = ap (sought (c .before .before .before .before .decode .result) (c .before .before .before .before .before .before .loop .slots)) (c .named .ensures)
 
-within-requires : tie.Need-within-requires Inv-loop2 μ-loop2 Inv-loop3 μ-loop3 Inv-loop μ-loop
-within-requires c κs = search needs
-
 mul-passes : tie.Need-mul-passes Inv-loop2 μ-loop2 Inv-loop3 μ-loop3 Inv-loop μ-loop
-mul-passes c = omega (arith, c .within .ensures .1)
+mul-passes c = omega (arith, within-below (c .loop3 .i))
 
 passes-requires : tie.Need-passes-requires Inv-loop2 μ-loop2 Inv-loop3 μ-loop3 Inv-loop μ-loop
 passes-requires c κs = search needs
@@ -227,56 +220,38 @@ loop3-less c = omega (arith, below c)
 
 loop3-again : tie.Need-loop3-again Inv-loop2 μ-loop2 Inv-loop3 μ-loop3 Inv-loop μ-loop
 loop3-again c =
-    let b = c .before .before .before in
-    let v = b .before .before .before .before .before .before .before .before .loop in
-    sym (sought-next (v .slots) (b .before .loop3 .i) (read-within (v .slots) (b .before .loop3 .i) _ (v .inv .sound .slots) (b .within .ensures)) (b .before .before .before .before .before .before .decode .result) (sym (c .before .passes .ensures) ∙ c .if2 .taken)) ∙ b .before .loop3 .inv
-
-within-requires-2 : tie.Need-within-requires-2 Inv-loop2 μ-loop2 Inv-loop3 μ-loop3 Inv-loop μ-loop
-within-requires-2 c κs = search needs
+    let v = c .before .before .before .before .before .before .before .before .before .before .loop in
+    let i = c .before .before .before .loop3 .i in
+    sym (sought-next (v .slots) i (read-slot (v .slots) _ (v .inv .sound .slots) (within-below i)) (c .before .before .before .before .before .before .before .before .decode .result) (sym (c .before .passes .ensures) ∙ c .if2 .taken)) ∙ c .before .before .before .loop3 .inv
 
 mul-turn : tie.Need-mul-turn Inv-loop2 μ-loop2 Inv-loop3 μ-loop3 Inv-loop μ-loop
-mul-turn c = omega (arith, c .within2 .ensures .1)
-
-mul-turn-2 : tie.Need-mul-turn-2 Inv-loop2 μ-loop2 Inv-loop3 μ-loop3 Inv-loop μ-loop
-mul-turn-2 c = omega (arith, c .before .within2 .ensures .1)
-
-array-read-turn : tie.Need-array-read-turn Inv-loop2 μ-loop2 Inv-loop3 μ-loop3 Inv-loop μ-loop
-array-read-turn c = c .before .within2 .ensures .1
+mul-turn c = omega (arith, within-below (c .before .before .before .loop3 .i))
 
 turn-requires : tie.Need-turn-requires Inv-loop2 μ-loop2 Inv-loop3 μ-loop3 Inv-loop μ-loop
 turn-requires c κs = search needs
 
 mul-slots-2 : tie.Need-mul-slots-2 Inv-loop2 μ-loop2 Inv-loop3 μ-loop3 Inv-loop μ-loop
-mul-slots-2 c = omega (arith, c .before .before .before .before .before .before .before .before .before .before .before .before .within2 .ensures .1)
-
-mul-snaps-2 : tie.Need-mul-snaps-2 Inv-loop2 μ-loop2 Inv-loop3 μ-loop3 Inv-loop μ-loop
-mul-snaps-2 c = omega (arith, c .before .before .before .before .before .before .before .before .before .before .before .before .within2 .ensures .1)
+mul-slots-2 c = omega (arith, within-below (c .before .before .before .before .before .before .before .before .before .before .before .before .before .before .before .loop3 .i))
 
 over-requires : tie.Need-over-requires Inv-loop2 μ-loop2 Inv-loop3 μ-loop3 Inv-loop μ-loop
 over-requires c κs = search needs
 
-number-requires : tie.Need-number-requires Inv-loop2 μ-loop2 Inv-loop3 μ-loop3 Inv-loop μ-loop
-number-requires c κs = search needs
-
 put-requires : tie.Need-put-requires Inv-loop2 μ-loop2 Inv-loop3 μ-loop3 Inv-loop μ-loop
-put-requires c κs = plays-room (c .before .before .before .before .before .before .before .loop .inv) (c .before .before .before .before .before .before .loop-test .taken)
+put-requires c κs = plays-room (c .before .before .before .before .before .before .loop .inv) (c .before .before .before .before .before .loop-test .taken)
 
 add-from : tie.Need-add-from Inv-loop2 μ-loop2 Inv-loop3 μ-loop3 Inv-loop μ-loop
-add-from c = omega (arith, c .before .before .before .before .before .before .before .before .before .before .loop .inv .upto, c .before .before .before .before .before .before .before .before .before .loop-test .taken)
+add-from c = omega (arith, plays-record (c .before .before .before .before .before .before .before .before .before .loop .inv) (c .before .before .before .before .before .before .before .before .loop-test .taken))
 
 add-to : tie.Need-add-to Inv-loop2 μ-loop2 Inv-loop3 μ-loop3 Inv-loop μ-loop
-add-to c = omega (arith, plays-room (c .before .before .before .before .before .before .before .before .before .before .loop .inv) (c .before .before .before .before .before .before .before .before .before .loop-test .taken), c .before .before .before .before .before .before .before .before .before .before .before .before .before .before .before .before .before .before .before .good)
+add-to c = omega (arith, plays-room (c .before .before .before .before .before .before .before .before .before .loop .inv) (c .before .before .before .before .before .before .before .before .loop-test .taken), c .before .before .before .before .before .before .before .before .before .before .before .before .before .before .before .before .before .before .good)
 
 loop-less : tie.Need-loop-less Inv-loop2 μ-loop2 Inv-loop3 μ-loop3 Inv-loop μ-loop
-loop-less c = omega (arith, c .before .before .before .before .before .before .before .before .before .loop-test .taken)
+loop-less c = omega (arith, plays-record (c .before .before .before .before .before .before .before .before .before .loop .inv) (c .before .before .before .before .before .before .before .before .loop-test .taken))
 
 loop-again : tie.Need-loop-again Inv-loop2 μ-loop2 Inv-loop3 μ-loop3 Inv-loop μ-loop
 loop-again c =
-    let j = c .before .before .before .before .before in
-    let v = j .before .before .before .before .before .loop in
-    plays-next (v .inv) (j .before .before .before .before .loop-test .taken) (says j) _
-    (c .before .before .put .ensures
-    ∙ ap (λ (a : ℕ). take (v .to) (v .out) ++ (entryOf a (j .if1 .far .value) ++ drop (v .to + entryBytes) (v .out))) (c .before .before .before .number .ensures))
+    let j = c .before .before .before .before in
+    plays-next (j .before .before .before .before .before .loop .inv) (j .before .before .before .before .loop-test .taken) (says j) _ (c .before .before .put .ensures)
 
 same-length : tie.Need-same-length Inv-loop2 μ-loop2 Inv-loop3 μ-loop3 Inv-loop μ-loop
 same-length c = c .before .loop .inv .sized
@@ -315,16 +290,16 @@ array-read-went-on : tie.Need-array-read-went-on Inv-loop2 μ-loop2 Inv-loop3 μ
 array-read-went-on c = placed-next (c .before)
 
 array-copy-out-passes : tie.Need-array-copy-out-passes Inv-loop2 μ-loop2 Inv-loop3 μ-loop3 Inv-loop μ-loop
-array-copy-out-passes c = c .within .ensures .1
+array-copy-out-passes c = within-below (c .loop3 .i)
 
 array-copy-out-turn : tie.Need-array-copy-out-turn Inv-loop2 μ-loop2 Inv-loop3 μ-loop3 Inv-loop μ-loop
-array-copy-out-turn c = c .within2 .ensures .1
+array-copy-out-turn c = within-below (c .before .before .before .loop3 .i)
 
 array-set-from-slots-2 : tie.Need-array-set-from-slots-2 Inv-loop2 μ-loop2 Inv-loop3 μ-loop3 Inv-loop μ-loop
-array-set-from-slots-2 c = c .before .before .before .before .before .before .before .before .before .before .before .before .within2 .ensures .1
+array-set-from-slots-2 c = within-below (c .before .before .before .before .before .before .before .before .before .before .before .before .before .before .before .loop3 .i)
 
-array-write-snaps-2 : tie.Need-array-write-snaps-2 Inv-loop2 μ-loop2 Inv-loop3 μ-loop3 Inv-loop μ-loop
-array-write-snaps-2 c = c .before .before .before .before .before .before .before .before .before .before .before .before .within2 .ensures .1
+mul-end : tie.Need-mul-end Inv-loop2 μ-loop2 Inv-loop3 μ-loop3 Inv-loop μ-loop
+mul-end c = search needs
 
 pub play-on-spec : {M : Type 1} → statement M
 play-on-spec =
@@ -336,8 +311,8 @@ play-on-spec =
     μ-loop3
     Inv-loop
     μ-loop
+    mul-end
     loop-holds
-    sub-loop
     decode-requires
     none-requires
     is-going-requires
@@ -369,25 +344,18 @@ play-on-spec =
     loop2-again
     named-requires
     loop3-holds
-    within-requires
     mul-passes
     array-copy-out-passes
     passes-requires
     add-i
     loop3-less
     loop3-again
-    within-requires-2
     mul-turn
     array-copy-out-turn
-    mul-turn-2
-    array-read-turn
     turn-requires
     mul-slots-2
     array-set-from-slots-2
-    mul-snaps-2
-    array-write-snaps-2
     over-requires
-    number-requires
     put-requires
     add-from
     add-to

@@ -38,7 +38,7 @@ returns-3 : tie.Need-returns-3
 returns-3 c =
     let e = c .before .before .before in
     let a = e .before .before .args in
-    c .moved-as3 .ensures ∙ ap (λ (s : Slot). movedAs Done (a .i) (a .c) s (a .e)) (c .before .new-slot .ensures)
+    c .moved-as3 .ensures ∙ ap (λ (s : Slot). movedAs Done (a .i) (a .c) s) (c .before .new-slot .ensures)
     ∙ sym (rw (sym (e .before .waits .ensures) ∙ e .if1 .left, lt-leb slotTotal (a .i) (c .before .before .if2 .left), created))
 
 pub create-spec : {M : Type 1} → statement M

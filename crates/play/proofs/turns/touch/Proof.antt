@@ -26,7 +26,7 @@ returns-2 : tie.Need-returns-2
 returns-2 c =
     let a = c .before .before .before .before .before .before .args in
     c .moved-as2 .ensures
-    ∙ ap (λ (m : Made). movedAs (m .answer) (m .value) (a .c) (m .slot) (a .e)) (c .before .before .handle .ensures)
+    ∙ ap (λ (m : Made). movedAs (m .answer) (m .value) (a .c) (m .slot)) (c .before .before .handle .ensures)
     ∙ sym (rw (lt-leb slotTotal (a .i) (c .before .before .before .if1 .left), touched))
 
 pub touch-spec : {M : Type 1} → statement M

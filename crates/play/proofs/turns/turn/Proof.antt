@@ -49,7 +49,7 @@ unfolding turnOn
 returns c =
     let a = c .before .before .before .before .before .before .args in
     ap (λ (x : Moved). lent x (a .left .now) (a .right .now) (a .log .now)) (c .create .ensures)
-    ∙ sym (ap (λ (k : Call). turnOn k (a .i) (a .c) (a .s) (a .e) (a .left .now) (a .right .now) (a .log .now)) (c .before .enum-told .given .1))
+    ∙ sym (ap (λ (k : Call). turnOn k (a .i) (a .c) (a .s) (a .left .now) (a .right .now) (a .log .now)) (c .before .enum-told .given .1))
 
 same-length : tie.Need-same-length
 same-length c = search needs
@@ -62,7 +62,7 @@ unfolding turnOn
 returns-2 c =
     let a = c .before .before .before .before .before .before .before .before .before .args in
     ap (λ (x : Moved). lent x (a .left .now) (a .right .now) (a .log .now)) (c .touch .ensures)
-    ∙ sym (ap (λ (k : Call). turnOn k (a .i) (a .c) (a .s) (a .e) (a .left .now) (a .right .now) (a .log .now)) (c .before .before .before .before .call .given .1))
+    ∙ sym (ap (λ (k : Call). turnOn k (a .i) (a .c) (a .s) (a .left .now) (a .right .now) (a .log .now)) (c .before .before .before .before .call .given .1))
 
 same-length-3 : tie.Need-same-length-3
 same-length-3 c = search needs
@@ -78,28 +78,28 @@ unfolding turnOn
 returns-3 c =
     let a = c .before .before .before .before .before .before .before .before .before .before .before .before .before .before .before .before .args in
     c .before .before .before .before .before .before .append-on .ensures
-    ∙ sym (ap (λ (k : Call). turnOn k (a .i) (a .c) (a .s) (a .e) (a .left .now) (a .right .now) (a .log .now)) (c .before .before .before .before .before .before .before .before .before .before .before .call2 .given .1))
+    ∙ sym (ap (λ (k : Call). turnOn k (a .i) (a .c) (a .s) (a .left .now) (a .right .now) (a .log .now)) (c .before .before .before .before .before .before .before .before .before .before .before .call2 .given .1))
 
 returns-4 : tie.Need-returns-4
 unfolding turnOn
 returns-4 c =
     let a = c .before .before .before .before .before .before .before .args in
     ap (λ (x : Moved). lent x (a .left .now) (a .right .now) (a .log .now)) (c .open-on .ensures)
-    ∙ sym (ap (λ (k : Call). turnOn k (a .i) (a .c) (a .s) (a .e) (a .left .now) (a .right .now) (a .log .now)) (c .before .before .call3 .given .1))
+    ∙ sym (ap (λ (k : Call). turnOn k (a .i) (a .c) (a .s) (a .left .now) (a .right .now) (a .log .now)) (c .before .before .call3 .given .1))
 
 returns-5 : tie.Need-returns-5
 unfolding turnOn
 returns-5 c =
     let a = c .before .before .before .before .before .before .args in
     ap (λ (x : Moved). lent x (a .left .now) (a .right .now) (a .log .now)) (c .moved-as .ensures)
-    ∙ sym (ap (λ (k : Call). turnOn k (a .i) (a .c) (a .s) (a .e) (a .left .now) (a .right .now) (a .log .now)) (c .before .enum-told2 .given .1))
+    ∙ sym (ap (λ (k : Call). turnOn k (a .i) (a .c) (a .s) (a .left .now) (a .right .now) (a .log .now)) (c .before .enum-told2 .given .1))
 
 returns-6 : tie.Need-returns-6
 unfolding turnOn
 returns-6 c =
     let a = c .before .before .before .before .before .before .args in
     ap (λ (x : Moved). lent x (a .left .now) (a .right .now) (a .log .now)) (c .moved-as2 .ensures)
-    ∙ sym (ap (λ (k : Call). turnOn k (a .i) (a .c) (a .s) (a .e) (a .left .now) (a .right .now) (a .log .now)) (c .before .enum-told3 .given .1))
+    ∙ sym (ap (λ (k : Call). turnOn k (a .i) (a .c) (a .s) (a .left .now) (a .right .now) (a .log .now)) (c .before .enum-told3 .given .1))
 
 pub turn-spec : {M : Type 1} → statement M
 turn-spec =
