@@ -1,37 +1,24 @@
 // Replays the known ends, and a sample of histories on which the crate left-right and a player agreed. Each schedule is played
 // anew, and its transcript held against the one recorded. A line says that all are as recorded, or what the first difference is.
-// Then it plays schedules that are refused.
-use libc::STDOUT_FILENO;
+// Then it plays the schedules of standard input, which are refused.
+use libc::STDIN_FILENO;
 use play::Played;
+use tell::ROOM;
+use tell::put;
+use tell::say;
+use tell::value;
 ghost use Prim.Native.Nat.{_≤_};
 ghost use lib.ListN.{length};
-
-// One byte more than a sample may have, so that a longer one is seen.
-const SAMPLE: usize = 400001;
 
 const OUTPUT: usize = 32768;
 
 const ENTRY: usize = 9;
 
-// What the output holds before a schedule is played, to see whether the byte behind a transcript was written.
+// The longest schedule of those that are refused.
+const SHORT: usize = 32;
+
+// What the output holds before a schedule is played, to see what of it was written.
 const MARK: u8 = 165;
-
-// ---- what is printed
-
-fn say(text: &[u8], n: u64) {
-    io::write_all(STDOUT_FILENO, text);
-    io::print_decimal(STDOUT_FILENO, n);
-}
-
-fn end_line(text: &[u8]) {
-    io::write_all(STDOUT_FILENO, text);
-    io::write_all(STDOUT_FILENO, b"\n");
-}
-
-fn tell(history: u64, text: &[u8]) {
-    say(b"history ", history);
-    end_line(text);
-}
 
 // ---- numbers
 
@@ -81,25 +68,17 @@ fn part_at(s: &[u8], at: usize) -> Part
     }
 }
 
-// How far `a` is the same as `b`.
-fn same(a: &[u8], b: &[u8]) -> usize {
-    let mut i = 0;
-    while i < a.len() {
-        if b.len() <= i {
-            return i;
-        }
-        if a[i] != b[i] {
-            return i;
-        }
-        i += 1;
-    }
-    i
-}
-
 // ---- a history
 
+fn is_mark(out: &[u8], i: usize) -> bool {
+    if i < out.len() {
+        return out[i] == MARK;
+    }
+    false
+}
+
 // The answer and the value of the entry at `at`.
-fn say_entry(answer: &[u8], value: &[u8], s: &[u8], at: usize) {
+fn say_entry(name: &[u8], s: &[u8], at: usize) {
     if s.len() < ENTRY {
         return;
     }
@@ -108,56 +87,42 @@ fn say_entry(answer: &[u8], value: &[u8], s: &[u8], at: usize) {
     }
     let behind = at + 1;
     let end = at + ENTRY;
-    say(answer, number(&s[at..behind]));
-    say(value, number(&s[behind..end]));
+    say(name, number(&s[at..behind]));
+    say(b" ", number(&s[behind..end]));
 }
 
-// The record whose entry has byte `i`: its number, and both entries.
-fn say_record(i: usize, out: &[u8], recorded: &[u8]) {
+// What differs: bytes, and the record whose entry has byte `i`.
+fn say_difference(history: u64, played: Played, i: usize, out: &[u8], recorded: &[u8]) {
     let at = i - i % ENTRY;
-    say(b", record ", (i / ENTRY) as u64 + 1);
-    say_entry(b": answer ", b" value ", out, at);
-    say_entry(b", recorded ", b" ", recorded, at);
-    end_line(b"");
+    say(b"history ", history);
+    say(b": answer ", played.answer);
+    say(b", bytes ", played.written as u64);
+    say(b", recorded ", recorded.len() as u64);
+    say(b"; record ", (i / ENTRY) as u64 + 1);
+    say_entry(b": ", out, at);
+    say_entry(b", recorded ", recorded, at);
+    put(b"\n");
 }
 
-// Whether all is as recorded; what is not is said.
-fn judge(history: u64, played: Played, out: &[u8; OUTPUT], recorded: &[u8]) -> bool {
+// Whether all is as recorded, and the byte behind the transcript was not written; what is not is said.
+fn judge(history: u64, played: Played, out: &[u8], recorded: &[u8]) -> bool {
     let n = recorded.len();
-    if played.answer != 0 {
-        say(b"history ", history);
-        say(b": refused with ", played.answer);
-        end_line(b"");
-        return false;
+    let i = tell::same(recorded, out);
+    if played.answer == 0 && played.written == n && i == n && is_mark(out, n) {
+        return true;
     }
-    if played.written != n {
-        say(b"history ", history);
-        say(b": bytes ", played.written as u64);
-        say(b", recorded ", n as u64);
-        end_line(b"");
-        return false;
-    }
-    let i = same(recorded, out);
-    if i < n {
-        say(b"history ", history);
-        say_record(i, out, recorded);
-        return false;
-    }
-    if OUTPUT <= n {
-        tell(history, b": no room behind its transcript");
-        return false;
-    }
-    if out[n] != MARK {
-        tell(history, b": the byte behind its transcript was written");
-        return false;
-    }
-    true
+    say_difference(history, played, i, out, recorded);
+    false
+}
+
+fn judge_array(history: u64, played: Played, out: &[u8; OUTPUT], recorded: &[u8]) -> bool {
+    judge(history, played, out, recorded)
 }
 
 fn replayed(history: u64, schedule: &[u8], recorded: &[u8]) -> bool {
     let mut out = [MARK; OUTPUT];
     let played = play::lrt_play(schedule, &mut out);
-    judge(history, played, &out, recorded)
+    judge_array(history, played, &out, recorded)
 }
 
 // ---- the sample
@@ -165,7 +130,12 @@ fn replayed(history: u64, schedule: &[u8], recorded: &[u8]) -> bool {
 fn conclude(histories: u64, records: u64) {
     say(b"", histories);
     say(b" histories, ", records);
-    end_line(b" records: as recorded");
+    put(b" records: as recorded\n");
+}
+
+fn cut_short(history: u64) {
+    say(b"history ", history);
+    put(b": cut short\n");
 }
 
 fn replay(s: &[u8]) {
@@ -181,11 +151,11 @@ fn replay(s: &[u8]) {
         let end = transcript.end;
         histories += 1;
         if from <= at {
-            tell(histories as u64, b": cut short");
+            cut_short(histories as u64);
             return;
         }
         if to <= middle {
-            tell(histories as u64, b": cut short");
+            cut_short(histories as u64);
             return;
         }
         if !replayed(histories as u64, &s[from..middle], &s[to..end]) {
@@ -197,14 +167,8 @@ fn replay(s: &[u8]) {
     conclude(histories as u64, records as u64);
 }
 
-fn replay_file(fd: i32) {
-    let mut space = [0u8; SAMPLE];
-    let n = io::read_full(fd, &mut space);
-    if n == SAMPLE {
-        end_line(b"the sample is too long");
-        return;
-    }
-    replay(&space[..n]);
+fn replay_text(space: &[u8; ROOM], n: usize) {
+    replay(tell::text(space, n));
 }
 
 fn replay_argument(k: usize) {
@@ -215,85 +179,71 @@ fn replay_argument(k: usize) {
         os::fail(&path[..length]);
         return;
     }
-    replay_file(fd);
+    let mut space = [0u8; ROOM];
+    let n = tell::read_all(fd, &mut space);
+    replay_text(&space, n);
     libc::close(fd);
 }
 
 // ---- what refuses a schedule
 
-fn marks(out: &[u8]) -> u64 {
+// How many bytes of the output were written.
+fn changed(out: &[u8]) -> u64 {
     let mut n: u64 = 0;
     let mut i = 0;
     while i < out.len() {
-        if out[i] == MARK {
-            n += 1;
-        }
+        n += tell::one_if(out[i] != MARK);
         i += 1;
     }
     n
 }
 
-// Plays a schedule, and says what came back and how many bytes of the output are as they were.
-fn refused(what: &[u8], schedule: &[u8], out: &mut [u8]) {
-    let played = play::lrt_play(schedule, out);
-    io::write_all(STDOUT_FILENO, what);
-    say(b": answer ", played.answer);
-    say(b", written ", played.written as u64);
-    say(b", untouched ", marks(&out[..]));
-    end_line(b"");
+// The bytes that a line gives, and zeros behind them.
+fn fill(s: &mut [u8], line: &[u8]) {
+    let mut i = 0;
+    while i < s.len() {
+        s[i] = (value(line, std::num::wrapping_add_usize(i, 3)) % 256) as u8;
+        i += 1;
+    }
 }
 
-fn headers(out: &mut [u8]) {
-    refused(b"no bytes", b"", out);
-    refused(b"the mark alone", b"LRT", out);
-    refused(b"mark and half a version", b"LRT\x01", out);
-    refused(b"another mark", b"LRS\x01\x00", out);
+// Plays a line's schedule, and says what came back and how many bytes of the output were written.
+fn played(line: &[u8], s: &mut [u8], out: &mut [u8]) {
+    let room = tell::least(value(line, 1) as usize, out.len());
+    let n = tell::least(value(line, 2) as usize, s.len());
+    fill(s, line);
+    let r = play::lrt_play(&s[..n], &mut out[..room]);
+    put(line);
+    say(b" -> ", r.answer);
+    say(b" ", r.written as u64);
+    say(b", changed ", changed(&out[..]));
+    put(b"\n");
 }
 
-fn versions(out: &mut [u8]) {
-    refused(b"version 2", b"LRT\x02\x00", out);
-    refused(b"version 257", b"LRT\x01\x01", out);
-    refused(b"version 2, torn", b"LRT\x02\x00\x01", out);
+fn refused(line: &[u8]) {
+    let mut s = [0u8; SHORT];
+    let mut out = [MARK; SHORT];
+    played(line, &mut s, &mut out);
 }
 
-fn records(out: &mut [u8]) {
-    refused(b"a torn record", b"LRT\x01\x00\x01\x00\x00", out);
-    refused(b"a torn record of no call", b"LRT\x01\x00\x00\x00", out);
-    refused(
-        b"call 0",
-        b"LRT\x01\x00\x00\x00\x00\x00\x00\x00\x00\x00\x00\x00\x00\x00\x00\x00\x00\x00\x00\x00\x00\x00",
-        out,
-    );
-    refused(
-        b"call 15",
-        b"LRT\x01\x00\x0f\x00\x00\x00\x00\x00\x00\x00\x00\x00\x00\x00\x00\x00\x00\x00\x00\x00\x00\x00",
-        out,
-    );
-    refused(
-        b"a byte of room too little",
-        b"LRT\x01\x00\x01\x00\x00\x00\x00\x00\x00\x00\x00\x00\x00\x00\x00\x00\x00\x00\x00\x00\x00\x00",
-        out,
-    );
-    refused(b"no records", b"LRT\x01\x00", out);
+fn each_line(s: &[u8]) {
+    let mut at = 0;
+    while at < s.len() {
+        let end = tell::until(s, at, b'\n');
+        refused(&s[at..end]);
+        at = tell::behind(s, end);
+    }
 }
 
-fn room(out: &mut [u8]) {
-    refused(
-        b"room enough",
-        b"LRT\x01\x00\x01\x00\x00\x00\x00\x00\x00\x00\x00\x00\x00\x00\x00\x00\x00\x00\x00\x00\x00\x00",
-        out,
-    );
+fn lines(space: &[u8; ROOM], n: usize) {
+    each_line(tell::text(space, n));
 }
 
+// A line for each schedule: a name, the output's room, the schedule's length and its bytes, without the zeros behind them.
 fn refusals() {
-    let mut eight = [MARK; 8];
-    let mut nine = [MARK; 9];
-    let mut ten = [MARK; 10];
-    headers(&mut ten);
-    versions(&mut ten);
-    records(&mut eight);
-    room(&mut nine);
-    room(&mut ten);
+    let mut space = [0u8; ROOM];
+    let n = tell::read_all(STDIN_FILENO, &mut space);
+    lines(&space, n);
 }
 
 // The first argument names the known ends, the second the sample.

@@ -1,15 +1,15 @@
 -- Each history takes more of the sample than it has records, and at least one byte of it.
-use borrow.Author.Needs.{needs}
 use Prim.Native.Nat.{_≤_, _-_}
 use lib.ListN.{length}
+use borrow.Author.Needs.{needs}
 use Rattle.replay.proofs.replay.Statement.{statement}
 use Rattle.replay.proofs.replay.Tie as tie
 
 abbrev Inv-loop : tie.InvT-loop
-Inv-loop s at₀ histories₀ records₀ t11 t12 at histories records = (at ≤ length s) × ((histories ≤ at) × (records ≤ at))
+Inv-loop s at₀ histories₀ records₀ at histories records = (at ≤ length s) × ((histories ≤ at) × (records ≤ at))
 
 abbrev μ-loop : tie.MeasureT-loop
-μ-loop s at₀ histories₀ records₀ t11 t12 at histories records = length s - at
+μ-loop s at₀ histories₀ records₀ at histories records = length s - at
 
 loop-holds : tie.Need-loop-holds Inv-loop μ-loop
 loop-holds c = search needs
@@ -23,20 +23,14 @@ part-at-requires-2 c κs = search needs
 add-histories : tie.Need-add-histories Inv-loop μ-loop
 add-histories c = search needs
 
-slice-aggregate-tell : tie.Need-slice-aggregate-tell Inv-loop μ-loop
-slice-aggregate-tell c = search needs
-
-tell-requires : tie.Need-tell-requires Inv-loop μ-loop
-tell-requires c κs = search needs
+cut-short-requires : tie.Need-cut-short-requires Inv-loop μ-loop
+cut-short-requires c κs = search needs
 
 returns : tie.Need-returns Inv-loop μ-loop
 returns c = search needs
 
-slice-aggregate-tell-2 : tie.Need-slice-aggregate-tell-2 Inv-loop μ-loop
-slice-aggregate-tell-2 c = search needs
-
-tell-requires-2 : tie.Need-tell-requires-2 Inv-loop μ-loop
-tell-requires-2 c κs = search needs
+cut-short-requires-2 : tie.Need-cut-short-requires-2 Inv-loop μ-loop
+cut-short-requires-2 c κs = search needs
 
 returns-2 : tie.Need-returns-2 Inv-loop μ-loop
 returns-2 c = search needs
@@ -93,11 +87,9 @@ replay-spec =
     part-at-requires
     part-at-requires-2
     add-histories
-    slice-aggregate-tell
-    tell-requires
+    cut-short-requires
     returns
-    slice-aggregate-tell-2
-    tell-requires-2
+    cut-short-requires-2
     returns-2
     sub-replayed
     part-replayed-start
