@@ -70,7 +70,7 @@ fn say_part(p: &[u64]) {
 }
 
 fn say_apart(a: &[u64], b: &[u64]) {
-    say(b" -> ", tell::apart(a, b) as u64);
+    say(b" -> ", tell::apart(a, b));
 }
 
 // The release in place, on the record of a slot.

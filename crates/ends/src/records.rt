@@ -8,6 +8,7 @@ use read::Phase;
 use read::SLOTS;
 use read::Slot;
 use read::State;
+use tell::one_if;
 use tell::put;
 use tell::put_name;
 use tell::say;
@@ -35,10 +36,6 @@ const DUE_NAMES: [u8; 17] = *b"none load restore";
 
 // The position of a phase that has none.
 const NOWHERE: u64 = 18446744073709551615;
-
-fn bit(b: bool) -> u64 {
-    if b { 1 } else { 0 }
-}
 
 // ---- the control part
 
@@ -113,11 +110,11 @@ fn numbers(c: Control) -> [u64; NUMBERS] {
     let j = c.job;
     let p = c.phase;
     [
-        bit(c.right),
-        bit(c.null),
-        bit(c.lock),
-        bit(c.first),
-        bit(c.second),
+        one_if(c.right),
+        one_if(c.null),
+        one_if(c.lock),
+        one_if(c.first),
+        one_if(c.second),
         c.length as u64,
         c.swapped as u64,
         job_number(j),
@@ -256,7 +253,7 @@ fn same_slot(s: Slot, t: Slot) -> bool {
     if s.epoch != t.epoch {
         return false;
     }
-    if bit(s.used) != bit(t.used) {
+    if one_if(s.used) != one_if(t.used) {
         return false;
     }
     same_guards(g, h)
@@ -279,7 +276,7 @@ fn say_slot(i: usize, s: Slot) {
     let d = s.due;
     let g = s.guards;
     say(b", slot ", i as u64);
-    put_name(&USE_NAMES, bit(s.used) as usize);
+    put_name(&USE_NAMES, one_if(s.used) as usize);
     say(b" ", s.epoch);
     put_name(&DUE_NAMES, due_number(d));
     put(b" ");

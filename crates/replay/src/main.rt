@@ -68,21 +68,6 @@ fn part_at(s: &[u8], at: usize) -> Part
     }
 }
 
-// How far `a` is the same as `b`.
-fn same(a: &[u8], b: &[u8]) -> usize {
-    let mut i = 0;
-    while i < a.len() {
-        if b.len() <= i {
-            return i;
-        }
-        if a[i] != b[i] {
-            return i;
-        }
-        i += 1;
-    }
-    i
-}
-
 // ---- a history
 
 fn is_mark(out: &[u8], i: usize) -> bool {
@@ -122,7 +107,7 @@ fn say_difference(history: u64, played: Played, i: usize, out: &[u8], recorded: 
 // Whether all is as recorded, and the byte behind the transcript was not written; what is not is said.
 fn judge(history: u64, played: Played, out: &[u8], recorded: &[u8]) -> bool {
     let n = recorded.len();
-    let i = same(recorded, out);
+    let i = tell::same(recorded, out);
     if played.answer == 0 && played.written == n && i == n && is_mark(out, n) {
         return true;
     }
@@ -203,8 +188,8 @@ fn replay_argument(k: usize) {
 // ---- what refuses a schedule
 
 // How many bytes of the output were written.
-fn changed(out: &[u8]) -> usize {
-    let mut n: usize = 0;
+fn changed(out: &[u8]) -> u64 {
+    let mut n: u64 = 0;
     let mut i = 0;
     while i < out.len() {
         n += tell::one_if(out[i] != MARK);
@@ -231,7 +216,7 @@ fn played(line: &[u8], s: &mut [u8], out: &mut [u8]) {
     put(line);
     say(b" -> ", r.answer);
     say(b" ", r.written as u64);
-    say(b", changed ", changed(&out[..]) as u64);
+    say(b", changed ", changed(&out[..]));
     put(b"\n");
 }
 

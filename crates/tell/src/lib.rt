@@ -8,7 +8,7 @@ ghost use lib.ListN.{length};
 pub const ROOM: usize = 400001;
 
 // Words that differ are listed up to this many; of more, their number and a digest are told.
-const LISTED: usize = 16;
+const LISTED: u64 = 12;
 
 const TOP: u64 = 18446744073709551615;
 
@@ -89,18 +89,26 @@ pub fn put_name(names: &[u8], k: usize) {
     put(word(names, k));
 }
 
-fn same(a: &[u8], b: &[u8]) -> bool {
-    if a.len() != b.len() {
-        return false;
-    }
+// How far `a` is the same as `b`.
+pub fn same(a: &[u8], b: &[u8]) -> usize {
     let mut i = 0;
     while i < a.len() {
+        if b.len() <= i {
+            return i;
+        }
         if a[i] != b[i] {
-            return false;
+            return i;
         }
         i += 1;
     }
-    true
+    i
+}
+
+fn equal(a: &[u8], b: &[u8]) -> bool {
+    if a.len() != b.len() {
+        return false;
+    }
+    same(a, b) == a.len()
 }
 
 // Which of these names a word is, the first being 0; their number where it is none.
@@ -109,7 +117,7 @@ pub fn which(names: &[u8], w: &[u8]) -> usize {
     let mut at = 0;
     while at < names.len() {
         let end = until(names, at, b' ');
-        if same(&names[at..end], w) {
+        if equal(&names[at..end], w) {
             return k;
         }
         at = end + 1;
@@ -201,16 +209,16 @@ fn at(w: &[u64], i: usize) -> u64 {
     0
 }
 
-// One for what holds: to count.
-pub fn one_if(b: bool) -> usize
+// One for what holds: to count, or to say.
+pub fn one_if(b: bool) -> u64
     ensures { λ r. ⌜ r ≤ 1 ⌝ }
 {
     if b { 1 } else { 0 }
 }
 
 // How many words of `b` are not those of `a`.
-pub fn apart(a: &[u64], b: &[u64]) -> usize {
-    let mut n: usize = 0;
+pub fn apart(a: &[u64], b: &[u64]) -> u64 {
+    let mut n: u64 = 0;
     let mut i = 0;
     while i < b.len() {
         n += one_if(at(a, i) != b[i]);
@@ -269,6 +277,6 @@ pub fn say_words(name: &[u8], a: &[u64], b: &[u64]) {
         list(a, b);
         return;
     }
-    say(b" ", n as u64);
+    say(b" ", n);
     say(b" in all, digest ", digest(a, b));
 }

@@ -17,17 +17,17 @@ loop-holds c = search needs
 until-requires : tie.Need-until-requires Inv-loop μ-loop
 until-requires c κs = search needs
 
-sub-same : tie.Need-sub-same Inv-loop μ-loop
-sub-same c = search needs
+sub-equal : tie.Need-sub-equal Inv-loop μ-loop
+sub-equal c = search needs
 
-part-same-start : tie.Need-part-same-start Inv-loop μ-loop
-part-same-start c = search needs
+part-equal-start : tie.Need-part-equal-start Inv-loop μ-loop
+part-equal-start c = search needs
 
-part-same-end : tie.Need-part-same-end Inv-loop μ-loop
-part-same-end c = search needs
+part-equal-end : tie.Need-part-equal-end Inv-loop μ-loop
+part-equal-end c = search needs
 
-same-requires : tie.Need-same-requires Inv-loop μ-loop
-same-requires c κs = search needs
+equal-requires : tie.Need-equal-requires Inv-loop μ-loop
+equal-requires c κs = search needs
 
 returns : tie.Need-returns Inv-loop μ-loop
 returns c = search needs
@@ -55,10 +55,10 @@ which-spec =
     μ-loop
     loop-holds
     until-requires
-    sub-same
-    part-same-start
-    part-same-end
-    same-requires
+    sub-equal
+    part-equal-start
+    part-equal-end
+    equal-requires
     returns
     add-at
     add-k
