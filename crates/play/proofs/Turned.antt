@@ -21,7 +21,7 @@ use Rattle.read.specs.declared.State.{State}
 use Rattle.read.specs.declared.Reply.{Reply}
 use Rattle.read.specs.declared.Verdict.{Verdict}
 use Rattle.read.specs.declared.Verdict.the-variants.{Admitted, Refused}
-use Rattle.read.proofs.Cases.{reply-past, reply-in, create-refused, create-made}
+use Rattle.read.proofs.Cases.{stateOf, reply-past, reply-in, create-refused, create-made}
 use Rattle.read.specs.Machine.{slotTotal, slotCount, logRoom, noSlot, newSlot}
 use Rattle.read.specs.Handles.{smallest, withDue, handleOn}
 use Rattle.read.specs.Calls.{Lent, lent, slotAt, refusal, createReply, handleReply}
@@ -127,8 +127,7 @@ putSlot i st m =
     (record {
       answer = m .made .answer;
       value = m .made .value;
-      state =
-          record { control = m .made .control; slots = set (st .slots) i (m .made .slot); snapshots = st .snapshots };
+      state = stateOf (m .made .control) (set (st .slots) i (m .made .slot)) (st .snapshots);
     })
     (m .left) (m .right) (m .log)
 
@@ -139,29 +138,13 @@ module _ (st : State) where
       lift i st (lent (record { answer = a; value = v; control = c; slot = s; snapshot = snapAt st i }) l r g)
       ≡ putSlot i st (lent (movedAs a v c s) l r g)
   kept i a v c s l r g =
-      λ j.
-      lent
-      (record {
-        answer = a;
-        value = v;
-        state =
-            record { control = c; slots = set (st .slots) i s; snapshots = set-getD (st .snapshots) i 0 j };
-      })
-      l r g
+      λ j. lent (record { answer = a; value = v; state = stateOf c (set (st .slots) i s) (set-getD (st .snapshots) i 0 j) }) l r g
 
   module _ (l r g : List ℕ) where
     -- and a slot
     unslot : (i : ℕ) (a : Answer) → putSlot i st (lent (movedAs a 0 (st .control) (slotAt st i)) l r g) ≡ lent (refusal a st) l r g
     unslot i a =
-        λ j.
-        lent
-        (record {
-          answer = a;
-          value = 0;
-          state =
-              record { control = st .control; slots = set-getD (st .slots) i noSlot j; snapshots = st .snapshots };
-        })
-        l r g
+        λ j. lent (refusal a (stateOf (st .control) (set-getD (st .slots) i noSlot j) (st .snapshots))) l r g
 
     pub unput : (i : ℕ) (a : Answer) → lift i st (lent (refused a (st .control) (slotAt st i) (snapAt st i)) l r g) ≡ lent (refusal a st) l r g
     unput i a = kept i a 0 (st .control) (slotAt st i) l r g ∙ unslot i a
