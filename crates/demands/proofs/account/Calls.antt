@@ -46,6 +46,7 @@ use Rattle.write.proofs.Verdicts.{judging, append-idle, open-idle}
 use Rattle.write.proofs.Control.{Whole, some-slot}
 use Rattle.demands.specs.Account.{Reader, Account, withAt, newReader, turned, spoke, unswapped, unpublished, accepts, ofStore, ofReader, missed, withPlan, noted}
 use Rattle.demands.specs.Table.{wanted, wantedValue, worth, worthOn}
+use Rattle.demands.proofs.Others.{on-other, open-other}
 use Rattle.demands.proofs.Passed.{on-passed, WritePassed, write-passed}
 use Rattle.demands.proofs.Phases.{withJob}
 use Rattle.demands.proofs.shown.Invariant.{Held, reachAt, sight, seenOf, Quiet, ViewOf, Inv}
@@ -274,14 +275,14 @@ module _ {w : World} {a : Account} (tie : Tie w a) where
         (handled-view c (a .store .published) (tie .inv .read) (tie .inv .each i) (not-false _ (u .slot)) unwaited (eqb i 0) hd u)
         (handled-met (a .store .published) (tie .reads i) (tie .inv .each i .four) c (w .left) (w .right) (tie .inv .each i .shows) (eqb i 0) hd u))
         (λ x v.
-        mild-right (On i hd) refl x (refused-mild signs refl x v) (want-on ∙ ap (λ y. answerNo y (answer15 (misses (a .readers i) hd (c .null)))) v)
+        mild-right (On i hd) (on-other i hd .no-run) x (refused-mild signs refl x v) (want-on ∙ ap (λ y. answerNo y (answer15 (misses (a .readers i) hd (c .null)))) v)
         (withSlot i s (w .state)) (slot-same i (w .state)))
 
   pub handle-right : (i : ℕ) (hd : Handle) → Right a (On i hd) (reply callOn (On i hd) w)
   unfolding callOn
   handle-right i hd =
       below (λ (o : Reply). Right a (On i hd) (lent o (w .left) (w .right) (w .log))) i slotCount (λ lt. on-right i lt hd)
-      (λ le. mild-right (On i hd) refl answer.NoSlot (omega arith, omega arith) (wanted-past a c (tie .steers) whole i le hd) (w .state) refl)
+      (λ le. mild-right (On i hd) (on-other i hd .no-run) answer.NoSlot (omega arith, omega arith) (wanted-past a c (tie .steers) whole i le hd) (w .state) refl)
 
   -- ---- the writer's calls that are made at once
 
@@ -465,4 +466,4 @@ module _ {w : World} {a : Account} (tie : Tie w a) where
       let want = wanted-open a c (tie .steers) whole s0 e0 (tie .reads 0) o in
       judging (OpRight o) (smallest signs)
       (λ v. opened-right o (want ∙ ap (λ y. answerNo y 0) v) (resting (open-idle o c s0 v) (columnOf o) false false (write-passed (columnOf o) false false c s0 v)))
-      (λ x v. mild-right (Open o) refl x (refused-mild signs refl x v) (want ∙ ap (λ y. answerNo y 0) v) (kept-at c) (move-same 0 (w .state)))
+      (λ x v. mild-right (Open o) (open-other o .no-run) x (refused-mild signs refl x v) (want ∙ ap (λ y. answerNo y 0) v) (kept-at c) (move-same 0 (w .state)))

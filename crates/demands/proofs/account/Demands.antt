@@ -32,6 +32,7 @@ use Rattle.write.proofs.NeverBroken.{sound-judged, sound-fresh}
 use Rattle.demands.specs.Account.{Reader, Account, freshAccount, newReader, nobody, advanced, ran, noted}
 use Rattle.demands.specs.Table.{least, busy, wanted}
 use Rattle.demands.specs.Demands.{Unused as UnusedIn, Told, tell, telling, told, Runs, shown, copySeen, HandsOver, Demands, afterSteps as steppedWorld}
+use Rattle.demands.proofs.Others.{on-other, open-other}
 use Rattle.demands.proofs.Passed.{on-passed}
 use Rattle.demands.proofs.delay.RunIsSteps.{RunIsSteps, run-is-steps-sound}
 use Rattle.demands.proofs.Sides.{readCopy, writeCopy}
@@ -104,9 +105,9 @@ all-run {w} {a} h = go (answerOf (reply callRule Run w)) refl
 pub all-tell : (k : Call) (t : Told) → Tie (t .world) (t .account) → Tie (tell callRule k t .world) (tell callRule k t .account)
 unfolding tell
 all-tell Create t h = all-call h Create refl
-all-tell (On i x) t h = all-call h (On i x) refl
+all-tell (On i x) t h = all-call h (On i x) (on-other i x .no-run)
 all-tell (Append kind key amount) t h = all-call h (Append kind key amount) refl
-all-tell (Open o) t h = all-call h (Open o) refl
+all-tell (Open o) t h = all-call h (Open o) (open-other o .no-run)
 all-tell Step t h = all-call h Step refl
 all-tell Run t h = all-run h
 

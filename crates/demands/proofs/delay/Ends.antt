@@ -30,6 +30,7 @@ use Rattle.demands.specs.Account.{Account, Store, Reader, ofReader, newR
 use Rattle.demands.specs.Table.{busy, wanted}
 use Rattle.demands.specs.Demands.{tell, told, afterSteps as steppedWorld}
 use Rattle.demands.specs.Follows.{stepsOf, counted, Course, onward, follow, EndsAt, Follows}
+use Rattle.demands.proofs.Others.{on-other, open-other}
 use Rattle.demands.proofs.Booleans.{clash, or-false, or-true}
 use Rattle.demands.proofs.Sides.{readCopy, writeCopy}
 use Rattle.demands.proofs.shown.Invariant.{Stage, early, late, opsFrom, opsOf}
@@ -184,7 +185,7 @@ module _ {w : World} {a : Account} (h : Tie w a) (u : busy a ≡ true) where
   undone P x f (suc n) ne = x
 
   open-refused : (p : Opening) → answerOf (reply callRule (Open p) w) ≢ 0
-  open-refused p z = clash u (writes-idle a (Open p) (writer p) (sym (right h (Open p) refl .answer) ∙ z))
+  open-refused p z = clash u (writes-idle a (Open p) (writer p) (sym (right h (Open p) (open-other p .no-run) .answer) ∙ z))
     where
       writer : (p : Opening) → among 8 12 (Open p) ≡ true
       writer opening.Publish = refl
@@ -207,18 +208,19 @@ module _ {w : World} {a : Account} (h : Tie w a) (u : busy a ≡ true) where
   other-changes P x f Step s q = clash refl s
   other-changes P x f Run s q = clash refl q
 
-  other-goes : (k : Call) → isStep k ≡ false → isRun k ≡ false → ((x v : ℕ) → counted k x v ≡ 0) → Goes k a (after k w a) (reply callRule k w)
-  other-goes k s q n =
-      let m = n (answerOf (reply callRule k w)) (valueOf (reply callRule k w)) in
+  other-goes : (k : Call) → isStep k ≡ false → isRun k ≡ false → Goes k a (after k w a) (reply callRule k w)
+  other-goes k s q =
+      let m : counted k (answerOf (reply callRule k w)) (valueOf (reply callRule k w)) ≡ 0 =
+      λ i. elim (q i) [ true ↦ valueOf (reply callRule k w) | false ↦ bit (s i && eqb (answerOf (reply callRule k w)) 0) ] in
       forth (λ z. clash (declined-tries a k (sym (right h k q .answer) ∙ z) .0) s) (omega arith)
       (other-changes (λ b. b .plan ≡ a .plan) refl (λ i f. refl) k s q ∙ ap (λ (i : ℕ). drop i (a .plan)) (sym m))
 
   goes : (k : Call) → Goes k a (after k w a) (reply callRule k w)
   unfolding after
-  goes Create = other-goes Create refl refl (λ x v. refl)
-  goes (On i y) = other-goes (On i y) refl refl (λ x v. refl)
-  goes (Append kind key amount) = other-goes (Append kind key amount) refl refl (λ x v. refl)
-  goes (Open p) = other-goes (Open p) refl refl (λ x v. refl)
+  goes Create = other-goes Create refl refl
+  goes (On i y) = other-goes (On i y) (on-other i y .no-step) (on-other i y .no-run)
+  goes (Append kind key amount) = other-goes (Append kind key amount) refl refl
+  goes (Open p) = other-goes (Open p) (open-other p .no-step) (open-other p .no-run)
   goes Step = step-goes h u
   goes Run =
       let v = valueOf (reply callRule Run w) in
@@ -231,7 +233,7 @@ module _ {w : World} {a : Account} (h : Tie w a) (u : busy a ≡ true) where
   keeps-call o ops x Create ne = other-changes (Keeps o ops) x (λ i f. x) Create refl refl
   keeps-call o ops x (On i y) ne = x
   keeps-call o ops x (Append kind key amount) ne = other-changes (Keeps o ops) x (λ i f. x) (Append kind key amount) refl refl
-  keeps-call o ops x (Open p) ne = other-changes (Keeps o ops) x (λ i f. x) (Open p) refl refl
+  keeps-call o ops x (Open p) ne = other-changes (Keeps o ops) x (λ i f. x) (Open p) (open-other p .no-step) (open-other p .no-run)
   keeps-call o ops x Step ne = keeps-stopped o ops (answerOf (reply callRule Step w)) _ ne (made (answerOf (reply callRule Step w)))
     where
       made : (n : ℕ) → Keeps o ops (ifDone n (λ b. advanced (b .plan) b) a)
@@ -389,7 +391,7 @@ module _ {w : World} {a : Account} (h : Tie w a) (o : Opening) (z : wanted a (Op
   unfolding after
   begun P x =
       let v = valueOf (reply callRule (Open o) w) in
-      subst (λ (n : ℕ). busy (noted (Open o) n v a) ≡ true → P (noted (Open o) n v a)) (sym (right h (Open o) refl .answer ∙ z))
+      subst (λ (n : ℕ). busy (noted (Open o) n v a) ≡ true → P (noted (Open o) n v a)) (sym (right h (Open o) (open-other o .no-run) .answer ∙ z))
       (by (λ (b : Account). busy b ≡ true → P b) (is 11 (Open o) && not (eqb v 1))
       (λ _ u. clash u (busy-is a (c h) (h .steers) (whole h) ∙ ap underway idle)) (λ _ _. x))
 

@@ -29,6 +29,7 @@ use Rattle.write.specs.Numbers.{is, isRun}
 use Rattle.write.proofs.Cases.{by}
 use Rattle.demands.specs.Account.{Reader, Account, Move, withAt, lowest, inside, newReader, dropped, turned, opens, closes, readsEpoch, missed, spoke, unswapped, withPlan, advanced, ran, ifDeclined, noted}
 use Rattle.demands.specs.Table.{wantedValue, worth, worthOn}
+use Rattle.demands.proofs.Others.{on-other}
 use Rattle.demands.proofs.shown.Guards.{open-below, same-at, other-at}
 use Rattle.demands.proofs.account.Moves.{no-move, ran-keeps}
 use Rattle.demands.proofs.account.Answers.{wanted-create}
@@ -164,7 +165,7 @@ module _ {w : World} {a : Account} (h : Tie w a) (i j : ℕ) where
   call-stays (On k x) ne =
       at-stays j (a .readers) k _ i (λ e.
       spoke-stays j (a .readers k) (λ o. open-below (slotAt (w .state) k .guards) j (h .reads k .guards j ∙ o)) (a .store .published) x
-      (λ q. ne (λ z. On (e z) (q z))) (a .taken) (answerOf (reply callRule (On k x) w)) (valueOf (reply callRule (On k x) w)) (worth-is (On k x) refl))
+      (λ q. ne (λ z. On (e z) (q z))) (a .taken) (answerOf (reply callRule (On k x) w)) (valueOf (reply callRule (On k x) w)) (worth-is (On k x) (on-other k x .no-run)))
   call-stays (Append kind key amount) ne = append-stays j i kind key amount (answerOf (reply callRule (Append kind key amount) w)) (valueOf (reply callRule (Append kind key amount) w)) a
   call-stays (Open o) ne = open-stays j i o (answerOf (reply callRule (Open o) w)) (valueOf (reply callRule (Open o) w)) a
   call-stays Step ne = made-stays j i (answerOf (reply callRule Step w)) (valueOf (reply callRule Step w)) a
