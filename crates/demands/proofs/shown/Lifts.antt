@@ -29,13 +29,14 @@ use Rattle.demands.proofs.shown.Guards.{at-set, all-shut, none-open}
 use Rattle.demands.proofs.shown.Stages.{Stands, steered, onward}
 use Rattle.demands.proofs.shown.Slot.{Within, within-firstly, weaken, written-view, snapped-view}
 use Rattle.demands.proofs.Booleans.{clash}
+use Rattle.read.proofs.Cases.{stateOf}
 
 abbrev pub ctl : World → Control
 ctl w = w .state .control
 
 -- a world by its parts
 abbrev pub world : Control → List Slot → List ℕ → List ℕ → List ℕ → List ℕ → World
-world c ss es l r g = record { state = record { control = c; slots = ss; snapshots = es }; left = l; right = r; log = g }
+world c ss es l r g = record { state = stateOf c ss es; left = l; right = r; log = g }
 
 abbrev pub withControl : Control → World → World
 withControl c w = world c (w .state .slots) (w .state .snapshots) (w .left) (w .right) (w .log)
