@@ -6,7 +6,6 @@ use Rattle.read.specs.declared.Reply.{Reply}
 use Rattle.read.specs.Calls.{Lent}
 use Rattle.read.proofs.admission.row.Reads as admission-row
 use Rattle.read.proofs.admission.entry.Reads as admission-entry
-use Rattle.read.proofs.admission.column.Reads as admission-column
 use Rattle.read.proofs.guards.first_guard.Reads as guards-first-guard
 use Rattle.read.proofs.guards.is_open.Reads as guards-is-open
 use Rattle.read.proofs.guards.any_open.Reads as guards-any-open
@@ -45,9 +44,6 @@ admission-row-determined κs a r q s t h l = h ∙ sym l
 
 admission-entry-determined : (κs : _) (a : _) (r q : _) (s t : _) → admission-entry.Post κs a r s → admission-entry.Post κs a q t → r ≡ q
 admission-entry-determined κs a r q s t h l = h ∙ sym l
-
-admission-column-determined : (κs : _) (a : _) (r q : _) (s t : _) → admission-column.Post κs a r s → admission-column.Post κs a q t → r ≡ q
-admission-column-determined κs a r q s t h l = h ∙ sym l
 
 guards-first-guard-determined : (κs : _) (a : _) (r q : _) (s t : _) → guards-first-guard.Post κs a r s → guards-first-guard.Post κs a q t → r ≡ q
 guards-first-guard-determined κs a r q s t h l = h ∙ sym l

@@ -15,7 +15,7 @@ use Rattle.read.specs.declared.Made.{Made}
 use Rattle.read.specs.declared.Reply.{Reply}
 use Rattle.read.specs.declared.Handle.the-variants.{Drop, Enter, GoOn, Release, LookUp, WasDropped}
 use Rattle.read.specs.Machine.{same, isOpen, firstGuard, anyOpen, allOpen, isDue, isLoad, noSlot, newSlot, locks, nulls, sized, glanced, judged, row}
-use Rattle.read.specs.Admission.{column, entry}
+use Rattle.read.specs.Admission.{entry}
 use Rattle.read.specs.Handles.{smallest, handleSigns, freed, entered, wentOn, released, guardedCopy, handleOn}
 use Rattle.read.specs.Calls.{Lent, handleRule, createRule, viewRule, pairRule, startRule}
 use Rattle.read.proofs
@@ -27,9 +27,6 @@ RowPromise = Keeps1 (typed tt proofs.admission.row.Kinds.ps) (proofs.admission.r
 
 abbrev pub EntryPromise : (Phase → ℕ → ℕ) → Type 0
 EntryPromise = Keeps2 (typed tt proofs.admission.entry.Kinds.ps) (proofs.admission.entry.Reads.Post tt)
-
-abbrev pub ColumnPromise : (Handle → Bool → ℕ) → Type 0
-ColumnPromise = Keeps2 (typed tt proofs.admission.column.Kinds.ps) (proofs.admission.column.Reads.Post tt)
 
 -- ---- guards and slots
 
@@ -182,7 +179,7 @@ PairPromise f =
 -- ---- the rules keep them: no promise is false of every program
 
 pub kept :
-    RowPromise row × EntryPromise entry × ColumnPromise column × FirstGuardPromise firstGuard × IsOpenPromise isOpen
+    RowPromise row × EntryPromise entry × FirstGuardPromise firstGuard × IsOpenPromise isOpen
     × AnyOpenPromise anyOpen × AllOpenPromise allOpen × IsDuePromise isDue × IsLoadPromise isLoad × NoSlotPromise noSlot
     × NewSlotPromise newSlot × FreedPromise freed × EnteredPromise entered × WentOnPromise (λ c s. wentOn c (s .due) s)
     × ReleasedPromise released × VerdictPromise (λ c own s h. smallest (handleSigns c own s h)) × GuardedCopyPromise guardedCopy × HandlePromise handleOn

@@ -26,13 +26,13 @@ use Rattle.read.specs.declared.Verdict.the-variants.{Admitted, Refused}
 use Rattle.read.specs.declared.Made.{Made}
 use Rattle.read.specs.declared.Reply.{Reply}
 use Rattle.read.specs.Machine.{standing, holding, openOn, withUse, withReading, slotCount, guardCount, logWords, shut, noGuards, isOpen, standsRight, putGuard, same, firstGuard, anyOpen, allOpen, isDue, isLoad, noSlot, newSlot, isGone, underway, wholeControl, glanced, judged, fresh, row}
-use Rattle.read.specs.Admission.{handleNumber, column, entry}
+use Rattle.read.specs.Admission.{handleNumber, entry}
 use Rattle.read.specs.Handles.{mistimed, smallest, handleSigns, bumped, withDue, loaded, entered, wentOn, released, copyOf}
 use Rattle.read.specs.Calls.{slotAt, withSlot, refusal, Lent, lent, handleReply, firstFree, handleRule, createRule, viewRule, pairRule, startRule}
 use Rattle.table.proofs.Computes.{apart}
 use Rattle.table.proofs.Contracts.{Words, slice}
 use Rattle.read.proofs.Computes.{rules}
-use Rattle.read.proofs.Promises.{RowPromise, EntryPromise, ColumnPromise, FirstGuardPromise, IsOpenPromise}
+use Rattle.read.proofs.Promises.{RowPromise, EntryPromise, FirstGuardPromise, IsOpenPromise}
 use Rattle.read.proofs.Promises.{AnyOpenPromise, AllOpenPromise, IsDuePromise, IsLoadPromise, NoSlotPromise, NewSlotPromise}
 use Rattle.read.proofs.Promises.{FreedPromise, EnteredPromise, WentOnPromise, ReleasedPromise, VerdictPromise, GuardedCopyPromise}
 use Rattle.read.proofs.Promises.{HandlePromise, EitherPromise, LocksPromise, NullsPromise, SamePromise}
@@ -168,20 +168,6 @@ ownPasses p c = elim (ltb c 15) [ true ↦ entry p c | false ↦ 0 ]
 ownPasses-wrong : EntryPromise ownPasses → ⊥
 unfolding rules
 ownPasses-wrong h = apart itself refl (h (Poll 0) 16 refl)
-
--- slot 0 is as any other
-abbrev noOwn : Handle → Bool → ℕ
-noOwn h own = column h false
-
-noOwn-wrong : ColumnPromise noOwn → ⊥
-noOwn-wrong h = apart itself refl (h Drop true refl)
-
--- every call is in one column
-abbrev oneColumn : Handle → Bool → ℕ
-oneColumn h own = column Drop own
-
-oneColumn-wrong : ColumnPromise oneColumn → ⊥
-oneColumn-wrong h = apart itself refl (h Enter false refl)
 
 -- ---- guards
 

@@ -29,9 +29,12 @@ guardNamed (LookUp g key) = g
 guardNamed WasDropped = 0
 
 -- by whether the slot is slot 0
+abbrev pub columnBy : ℕ → Bool → ℕ
+columnBy n true = n + 12
+columnBy n false = n - 1
+
 abbrev pub column : Handle → Bool → ℕ
-column h true = handleNumber h + 12
-column h false = handleNumber h - 1
+column h own = columnBy (handleNumber h) own
 
 abbrev pub createColumn : ℕ
 createColumn = 0

@@ -2,7 +2,8 @@
 use crate::Handle;
 use crate::Phase;
 ghost use mathlib.Core.Path.{_≡_};
-ghost use Rattle.read.specs.Admission.{handleNumber, guardNamed, column as columnRule, entry as entryRule};
+ghost use Prim.Native.Nat.{_≤_, _<_};
+ghost use Rattle.read.specs.Admission.{handleNumber, guardNamed, columnBy, entry as entryRule};
 ghost use Rattle.read.specs.Machine.{row as rowRule};
 
 // What the entries say: not now, locked.
@@ -64,7 +65,7 @@ pub fn entry(p: Phase, column: usize) -> u8
 
 // A call on a handle by its number in a schedule.
 pub(crate) fn number(h: Handle) -> usize
-    ensures { λ r. ⌜ r ≡ handleNumber h ⌝ }
+    ensures { λ r. ⌜ (r ≡ handleNumber h) × (2 ≤ r) × (r < 8) ⌝ }
 {
     match h {
         Handle::Drop => 2,
@@ -90,27 +91,10 @@ pub(crate) fn guard_named(h: Handle) -> usize
     }
 }
 
-// The column of a call on a handle; `own`: on slot 0.
-pub(crate) fn column(h: Handle, own: bool) -> usize
-    ensures { λ r. ⌜ r ≡ columnRule h own ⌝ }
+// The column of a call on a handle, by its number; `own`: on slot 0.
+pub(crate) fn column(n: usize, own: bool) -> usize
+    requires { ⌜ (2 ≤ n) × (n < 8) ⌝ }
+    ensures { λ r. ⌜ r ≡ columnBy n own ⌝ }
 {
-    if own {
-        match h {
-            Handle::Drop => 14,
-            Handle::Enter => 15,
-            Handle::GoOn => 16,
-            Handle::Release(_) => 17,
-            Handle::LookUp(_, _) => 18,
-            Handle::WasDropped => 19,
-        }
-    } else {
-        match h {
-            Handle::Drop => 1,
-            Handle::Enter => 2,
-            Handle::GoOn => 3,
-            Handle::Release(_) => 4,
-            Handle::LookUp(_, _) => 5,
-            Handle::WasDropped => 6,
-        }
-    }
+    if own { n + 12 } else { n - 1 }
 }

@@ -98,7 +98,7 @@ pub(crate) fn verdict(c: Control, own: bool, s: Slot, h: Handle) -> Verdict
     let g = s.guards;
     let n = admission::number(h);
     let j = admission::guard_named(h);
-    let e = admission::entry(p, admission::column(h, own));
+    let e = admission::entry(p, admission::column(n, own));
     if !s.used {
         return Verdict::Refused(Answer::NoSlot);
     }

@@ -1,4 +1,3 @@
-use Rattle.read.specs.Machine.{row}
 -- What the row of a phase decides, r being that row.
 use Prim.Native.Nat.{ℕ}
 use mathlib.Core.Path.{_≡_, sym, ap, _∙_}
@@ -9,6 +8,7 @@ use Rattle.table.specs.declared.Answer.the-variants as answer
 use Rattle.read.specs.declared.Phase.{Phase}
 use Rattle.read.specs.declared.Job.{Job}
 use Rattle.read.specs.declared.Control.{Control}
+use Rattle.read.specs.Machine.{row}
 use Rattle.write.specs.Steps.{polling, lastPolling}
 use Rattle.write.specs.Scans.{isPoll, isLastPoll, polls, scanningAt, stopAnswer, stopControl, haltAnswer, halted}
 

@@ -1,4 +1,3 @@
-use Rattle.read.specs.Machine.{row}
 -- A run's scan over the slots: the polls of one phase, one after the other.
 use Prim.Native.Nat.{ℕ}
 use mathlib.Core.Bool.{Bool, true, false, _||_}
@@ -10,6 +9,7 @@ use Rattle.read.specs.declared.Phase.the-variants.{Idle}
 use Rattle.read.specs.declared.Job.{Job}
 use Rattle.read.specs.declared.Job.the-variants.{Publish, Try, TakeFirst, TakeSecond}
 use Rattle.read.specs.declared.Control.{Control}
+use Rattle.read.specs.Machine.{row}
 use Rattle.write.specs.Steps.{at, polling, lastPolling}
 
 -- the phases that poll, by their rows in the table of admissions: those of a publish, and take's last

@@ -1,107 +1,21 @@
--- The rule's number at the call and the flag that were found.
-use mathlib.Core.Path.{sym, ap₂}
+-- By the flag.
+use mathlib.Core.Path.{sym, ap}
 use borrow.Author.Needs.{needs}
-use Rattle.read.specs.Admission.{column}
+use Rattle.read.specs.Admission.{columnBy}
 use Rattle.read.proofs.admission.column.Statement.{statement}
 use Rattle.read.proofs.admission.column.Tie as tie
 
-enum-told : tie.Need-enum-told
-enum-told c = search needs
+add-result : tie.Need-add-result
+add-result c = search needs
 
-enum-told-2 : tie.Need-enum-told-2
-enum-told-2 c = search needs
-
-enum-told-3 : tie.Need-enum-told-3
-enum-told-3 c = search needs
-
-enum-told-4 : tie.Need-enum-told-4
-enum-told-4 c = search needs
-
-enum-told-5 : tie.Need-enum-told-5
-enum-told-5 c = search needs
-
-enum-told-6 : tie.Need-enum-told-6
-enum-told-6 c = search needs
-
-enum-told-7 : tie.Need-enum-told-7
-enum-told-7 c = search needs
-
-enum-told-8 : tie.Need-enum-told-8
-enum-told-8 c = search needs
-
-enum-told-9 : tie.Need-enum-told-9
-enum-told-9 c = search needs
-
-enum-told-10 : tie.Need-enum-told-10
-enum-told-10 c = search needs
-
-enum-told-11 : tie.Need-enum-told-11
-enum-told-11 c = search needs
-
-enum-told-12 : tie.Need-enum-told-12
-enum-told-12 c = search needs
+sub-result : tie.Need-sub-result
+sub-result c = search needs
 
 returns : tie.Need-returns
-returns c = sym (ap₂ column (c .enum-told .given .1) (c .before .before .if1 .taken))
+returns c = sym (ap (columnBy (c .before .args .n)) (c .if1 .taken))
 
 returns-2 : tie.Need-returns-2
-returns-2 c = sym (ap₂ column (c .enum-told2 .given .1) (c .before .before .if1 .taken))
-
-returns-3 : tie.Need-returns-3
-returns-3 c = sym (ap₂ column (c .enum-told3 .given .1) (c .before .before .if1 .taken))
-
-returns-4 : tie.Need-returns-4
-returns-4 c = sym (ap₂ column (c .enum-told4 .given .1) (c .before .before .if1 .taken))
-
-returns-5 : tie.Need-returns-5
-returns-5 c = sym (ap₂ column (c .enum-told5 .given .1) (c .before .before .if1 .taken))
-
-returns-6 : tie.Need-returns-6
-returns-6 c = sym (ap₂ column (c .enum-told6 .given .1) (c .before .before .if1 .taken))
-
-returns-7 : tie.Need-returns-7
-returns-7 c = sym (ap₂ column (c .enum-told7 .given .1) (c .before .before .if1 .left))
-
-returns-8 : tie.Need-returns-8
-returns-8 c = sym (ap₂ column (c .enum-told8 .given .1) (c .before .before .if1 .left))
-
-returns-9 : tie.Need-returns-9
-returns-9 c = sym (ap₂ column (c .enum-told9 .given .1) (c .before .before .if1 .left))
-
-returns-10 : tie.Need-returns-10
-returns-10 c = sym (ap₂ column (c .enum-told10 .given .1) (c .before .before .if1 .left))
-
-returns-11 : tie.Need-returns-11
-returns-11 c = sym (ap₂ column (c .enum-told11 .given .1) (c .before .before .if1 .left))
-
-returns-12 : tie.Need-returns-12
-returns-12 c = sym (ap₂ column (c .enum-told12 .given .1) (c .before .before .if1 .left))
+returns-2 c = sym (ap (columnBy (c .before .args .n)) (c .if1 .left))
 
 pub column-spec : {M : Type 1} → statement M
-column-spec =
-    tie.close
-    (tie.spec
-    enum-told
-    enum-told-2
-    enum-told-3
-    enum-told-4
-    enum-told-5
-    enum-told-6
-    enum-told-7
-    enum-told-8
-    enum-told-9
-    enum-told-10
-    enum-told-11
-    enum-told-12
-    returns
-    returns-2
-    returns-3
-    returns-4
-    returns-5
-    returns-6
-    returns-7
-    returns-8
-    returns-9
-    returns-10
-    returns-11
-    returns-12)
+column-spec = tie.close (tie.spec add-result sub-result returns returns-2)

@@ -5,7 +5,7 @@ use mathlib.Core.Path.{_≡_, refl, sym, ap, _∙_}
 use borrow.Author.Needs.{needs}
 use borrow.Author.Tests.{eq-eqb, ne-eqb}
 use lib.Dec.{eqb}
-use Rattle.read.specs.Admission.{handleNumber, guardNamed, column, entry}
+use Rattle.read.specs.Admission.{handleNumber, guardNamed, columnBy, column, entry}
 use Rattle.read.specs.Handles.{mistimed, leavesGuards, lacksGuard, lacksRoom}
 use Rattle.read.proofs.Verdicts.{first-here, first-on, first-none}
 use Rattle.read.proofs.handles.verdict.Statement.{statement}
@@ -18,18 +18,21 @@ guard-named-requires : tie.Need-guard-named-requires
 guard-named-requires c κs = search needs
 
 column-requires : tie.Need-column-requires
-column-requires c κs = search needs
+column-requires c κs = (c .before .number .ensures .1, c .before .number .ensures .2)
 
 entry-requires : tie.Need-entry-requires
 entry-requires c κs = search needs
 
 -- the entry of the table
 entry-is : (x : tie.After-entry) → (let a = x .before .before .before .before .before .args in x .entry .result ≡ entry (a .c .phase) (column (a .h) (a .own)))
-entry-is x = x .entry .ensures ∙ ap (entry (x .before .before .before .before .before .args .c .phase)) (x .before .column .ensures)
+entry-is x =
+    let a = x .before .before .before .before .before .args in
+    x .entry .ensures
+    ∙ ap (entry (a .c .phase)) (x .before .column .ensures ∙ ap (λ (n : ℕ). columnBy n (a .own)) (x .before .before .before .number .ensures .0))
 
 -- the call's number, and the guard that it names
 number-is : (x : tie.After-entry) → x .before .before .before .number .result ≡ handleNumber (x .before .before .before .before .before .args .h)
-number-is x = x .before .before .before .number .ensures
+number-is x = x .before .before .before .number .ensures .0
 
 guard-is : (x : tie.After-entry) → x .before .before .guard-named .result ≡ guardNamed (x .before .before .before .before .before .args .h)
 guard-is x = x .before .before .guard-named .ensures
