@@ -113,10 +113,10 @@ fn call_of(f: Fields) -> Call
     ensures { λ r. ⌜ r ≡ callOf f ⌝ }
 {
     let call = f.call;
+    if call == 1 {
+        return Call::Create;
+    }
     if call < 8 {
-        if call == 1 {
-            return Call::Create;
-        }
         let h = handle_of(call, f.guard, f.key);
         return Call::On(f.slot, h);
     }
