@@ -24,7 +24,7 @@ const TORN: u64 = 23;
 const UNKNOWN: u64 = 24;
 
 // A record's fields.
-pub struct Fields {
+pub(crate) struct Fields {
     pub call: u64,
     pub slot: usize,
     pub guard: usize,
