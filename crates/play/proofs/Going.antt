@@ -4,7 +4,7 @@ use mathlib.Core.Path.{_≡_, refl, sym, ap, subst, _∙_}
 use mathlib.Core.Bool.{Bool, true, false, not, _||_, true≢false}
 use mathlib.Core.List.{List}
 use native.Mathlib.Omega.{arith}
-use borrow.Author.Tests.{eq-eqb, ne-eqb, eqb-true, eqb-false}
+use borrow.Author.Tests.{eqb-true, eqb-false}
 use lib.Dec.{eqb}
 use lib.ListN.{getD, set}
 use Rattle.table.specs.Answers.{number}
@@ -24,23 +24,22 @@ use Rattle.read.specs.declared.Verdict.the-variants.{Admitted, Refused}
 use Rattle.read.specs.Machine.{slotTotal, noSlot, underway, isGone}
 use Rattle.read.specs.Admission.{entry, notNow}
 use Rattle.read.specs.Handles.{bit, given, smallest}
-use Rattle.read.specs.Calls.{Lent, lent, slotAt, refusal}
+use Rattle.read.specs.Calls.{Lent, lent, refusal}
 use Rattle.write.specs.declared.Moved.{Moved}
 use Rattle.write.specs.declared.Call.{Call}
 use Rattle.write.specs.declared.Call.the-variants.{Create, On, Append, Open, Step, Run}
 use Rattle.write.specs.Numbers.{isStep, isRun}
-use Rattle.write.specs.Steps.{holds, refused, moved, stopped, pollMove, lastPollMove, stepAt, place, at, polling, lastPolling}
+use Rattle.write.specs.Steps.{holds, refused, moved, stopped, pollMove, lastPollMove, stepAt, place, at, polling}
 use Rattle.write.specs.Begins.{stepSigns}
-use Rattle.write.specs.Runs.{snapAt, lift, stepOn, left, goOn, runOn}
+use Rattle.write.specs.Runs.{lift, stepOn, left, goOn, runOn}
 use Rattle.write.specs.Machine.{going, callOn}
 use Rattle.write.specs.World.{answerOf, valueOf, worldOf}
-use Rattle.write.proofs.Control.{Whole}
 use Rattle.write.proofs.Left.{step-value, step-lowers, left-small}
 use Rattle.write.proofs.RunLaws.{stateOf}
 use Rattle.write.proofs.NeverBroken.{Sound, sound-step}
 use Rattle.play.specs.declared.turns.Far.{Far}
 use Rattle.play.specs.Player.{machine}
-use Rattle.play.specs.Turns.{waiting, halt, haltOf, far, facing, over, ranOn, wentOn}
+use Rattle.play.specs.Turns.{halt, haltOf, far, facing, over, wentOn}
 use Rattle.play.proofs.Run.{runFrom, run-starts, run-over, run-unrolls}
 use Rattle.play.proofs.Turned.{read-slot, unput}
 

@@ -1,6 +1,6 @@
 -- The player's loop: before a turn, what stands in the output, and that the records still to come give the rest of what is to be
 -- written, and the machine that is to be reached.
-use Prim.Native.Nat.{ℕ, zero, suc, _+_, _-_, _*_, _/_, _≤_, _<_}
+use Prim.Native.Nat.{ℕ, suc, _+_, _-_, _*_, _/_, _≤_, _<_}
 use mathlib.Core.Path.{_≡_, refl, sym, ap, subst, _∙_}
 use mathlib.Core.Bool.{false, _||_}
 use mathlib.Core.List.{List, [], _++_, append-assoc, append-nil}

@@ -1,7 +1,7 @@
 -- A run from where it stands, which is all that the player's loop asks of it: where no call is under way it is over, and else it makes a
 -- step and goes on.
 use Prim.Native.Nat.{ℕ, zero, suc, _+_}
-use mathlib.Core.Path.{_≡_, refl, sym, ap, _∙_}
+use mathlib.Core.Path.{_≡_, refl}
 use mathlib.Core.Bool.{true, false}
 use mathlib.Core.List.{List}
 use Rattle.table.specs.Answers.{number}

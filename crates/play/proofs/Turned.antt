@@ -1,5 +1,5 @@
 -- A call that takes one turn: where its search for a slot ends, and that its move, put back, is what the machine gives.
-use Prim.Native.Nat.{ℕ, _+_, _-_, _*_, _%_, _^_, _<_}
+use Prim.Native.Nat.{ℕ, _+_, _-_, _%_, _^_, _<_}
 use mathlib.Core.Path.{_≡_, refl, sym, ap, _∙_}
 use mathlib.Core.Bool.{Bool, true, false, not, _&&_, _||_, true≢false}
 use mathlib.Core.List.{List}
@@ -24,7 +24,7 @@ use Rattle.read.specs.declared.Verdict.the-variants.{Admitted, Refused}
 use Rattle.read.proofs.Cases.{reply-past, reply-in, create-refused, create-made}
 use Rattle.read.specs.Machine.{slotTotal, slotCount, logRoom, noSlot, newSlot}
 use Rattle.read.specs.Handles.{given, smallest, withDue, handleOn}
-use Rattle.read.specs.Calls.{Lent, lent, slotAt, refusal, createSigns, createReply, handleReply}
+use Rattle.read.specs.Calls.{Lent, lent, slotAt, refusal, createReply, handleReply}
 use Rattle.write.specs.declared.Call.{Call}
 use Rattle.write.specs.declared.Call.the-variants.{Create, On, Append, Open, Step, Run}
 use Rattle.write.specs.declared.Moved.{Moved}

@@ -5,9 +5,9 @@ use write::Call;
 use write::Opening;
 ghost use mathlib.Core.Path.{_≡_};
 ghost use Prim.Native.Nat.{_+_, _*_, _^_, _≤_, _<_};
-ghost use lib.ListN.{length, getD};
-ghost use Rattle.play.specs.Schedule.{numberAt, count as countRule, startOf, marked as markedRule, versionOf, torn as tornRule, unknownAt, firstUnknown, recordBytes, handleOf, openingOf, callOf, fieldsAt, decoded};
-ghost use Rattle.play.specs.Player.{flaw, flawOf};
+ghost use lib.ListN.{length};
+ghost use Rattle.play.specs.Schedule.{numberAt, count as countRule, startOf, marked as markedRule, firstUnknown, recordBytes, handleOf, openingOf, callOf, fieldsAt, decoded};
+ghost use Rattle.play.specs.Player.{flawOf};
 
 // How many bytes there are before the records, and in one.
 pub const HEAD: usize = 5;

@@ -1,9 +1,8 @@
 -- Before a record the output holds the entries of those before it, and the rest gives what is missing (`Plays`). Before a step its call is
 -- on its way (`Going`), and before a slot that a create may pass its search ends where it would from the first. Each way through the
 -- body is one law.
-use Prim.Native.Nat.{ℕ, _+_, _-_, _<_}
-use mathlib.Core.Path.{_≡_, refl, sym, ap, subst, _∙_}
-use mathlib.Core.Bool.{true}
+use Prim.Native.Nat.{_-_, _<_}
+use mathlib.Core.Path.{_≡_, sym, ap, subst, _∙_}
 use mathlib.Core.Logic.{⊎-elim}
 use native.Mathlib.Omega.{arith}
 use borrow.Author.Needs.{needs}

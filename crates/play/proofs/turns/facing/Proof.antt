@@ -1,9 +1,7 @@
 -- What halts the next step, and whether anything does.
 use mathlib.Core.Path.{_≡_, ap, _∙_}
-use mathlib.Core.Bool.{Bool}
 use lib.Dec.{eqb}
 use Rattle.table.specs.Answers.{number}
-use Rattle.table.specs.declared.Answer.{Answer}
 use Rattle.play.specs.Turns.{halt, haltOf, far, facing}
 use borrow.Author.Needs.{needs}
 use Rattle.play.proofs.turns.facing.Statement.{statement}

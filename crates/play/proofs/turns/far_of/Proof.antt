@@ -1,8 +1,5 @@
 -- The answer's number.
 use borrow.Author.Needs.{needs}
-use Prim.Native.Nat.{ℕ}
-use mathlib.Core.Path.{ap}
-use Rattle.play.specs.declared.turns.Far.{Far}
 use Rattle.play.proofs.turns.far_of.Statement.{statement}
 use Rattle.play.proofs.turns.far_of.Tie as tie
 

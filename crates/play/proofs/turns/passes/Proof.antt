@@ -1,5 +1,4 @@
 -- The rule's case at the call that the match found.
-use mathlib.Core.Path.{sym, ap, _∙_}
 use borrow.Author.Tests.{lt-ltb, le-ltb}
 use Rattle.read.specs.Machine.{slotTotal}
 use Rattle.play.specs.Turns.{passes}

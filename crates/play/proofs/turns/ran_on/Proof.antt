@@ -1,5 +1,5 @@
 -- The rule's case under the tests that led there.
-use mathlib.Core.Path.{sym, ap, _∙_}
+use mathlib.Core.Path.{sym, _∙_}
 use borrow.Author.Tests.{eq-eqb, ne-eqb}
 use Rattle.table.specs.Answers.{number}
 use Rattle.play.specs.Turns.{ranOn}

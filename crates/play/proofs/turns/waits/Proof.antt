@@ -1,5 +1,4 @@
 -- The table's entry, compared.
-use mathlib.Core.Path.{sym}
 use lib.Dec.{eqb}
 use borrow.Author.Needs.{needs}
 use Rattle.play.proofs.turns.waits.Statement.{statement}
