@@ -9,7 +9,6 @@ use read::State;
 use schedule::HEAD;
 use schedule::RECORD;
 use table::WORDS;
-use transcript::ENTRY;
 use write::steps;
 ghost use mathlib.Core.Path.{_≡_};
 ghost use mathlib.Core.List.{_++_};
@@ -34,11 +33,14 @@ pub struct Flaw {
     pub place: usize,
 }
 
+// How many bytes a record's entry has.
+pub const ENTRY: usize = 9;
+
 // The output is too short.
 const CROWDED: u64 = 25;
 
 // Where the records of a part led: the machine's state, and how many bytes were read and written.
-pub struct Reached {
+pub(crate) struct Reached {
     pub state: State,
     pub used: usize,
     pub written: usize,

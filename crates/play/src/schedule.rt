@@ -72,26 +72,26 @@ pub fn count(s: &[u8]) -> usize
     (s.len() - HEAD) / RECORD
 }
 
-// What a record's fields mean: a handle's call, 2 to 7. Look ups are the most, and told first.
+// What a record's fields mean: a handle's call, 2 to 7.
 fn of_handle(f: Fields) -> Call
     requires { ⌜ (2 ≤ f .call) × (f .call < 8) ⌝ }
     ensures { λ r. ⌜ r ≡ callOf f ⌝ }
 {
     let call = f.call;
-    if call == 6 {
-        return Call::On(f.slot, Handle::LookUp(f.guard, f.key));
-    }
-    if call == 5 {
-        return Call::On(f.slot, Handle::Release(f.guard));
-    }
-    if call == 4 {
-        return Call::On(f.slot, Handle::GoOn);
+    if call == 2 {
+        return Call::On(f.slot, Handle::Drop);
     }
     if call == 3 {
         return Call::On(f.slot, Handle::Enter);
     }
-    if call == 2 {
-        return Call::On(f.slot, Handle::Drop);
+    if call == 4 {
+        return Call::On(f.slot, Handle::GoOn);
+    }
+    if call == 5 {
+        return Call::On(f.slot, Handle::Release(f.guard));
+    }
+    if call == 6 {
+        return Call::On(f.slot, Handle::LookUp(f.guard, f.key));
     }
     Call::On(f.slot, Handle::WasDropped)
 }
@@ -119,10 +119,10 @@ fn call_of(f: Fields) -> Call
     ensures { λ r. ⌜ r ≡ callOf f ⌝ }
 {
     let call = f.call;
+    if call < 2 {
+        return Call::Create;
+    }
     if call < 8 {
-        if call < 2 {
-            return Call::Create;
-        }
         return of_handle(f);
     }
     if call == 8 {

@@ -7,9 +7,6 @@ ghost use lib.Seq.{sets};
 ghost use Rattle.play.specs.Schedule.{bytesOf};
 ghost use Rattle.play.specs.Player.{entryBytes, entryOf};
 
-// How many bytes an entry has.
-pub const ENTRY: usize = 9;
-
 // Eight bytes of a number at byte `at`, the lowest first.
 fn eight(out: &mut [u8], at: usize, value: u64)
     requires { ⌜ at + 8 ≤ length (now out) ⌝ }

@@ -19,7 +19,7 @@ ghost use mathlib.Core.Bool.{_||_};
 ghost use Prim.Native.Nat.{_<_, _^_};
 ghost use Rattle.read.specs.Calls.{lent};
 ghost use Rattle.write.specs.Numbers.{isStep, isRun, slotOf};
-ghost use Rattle.write.specs.Steps.{refused, holds};
+ghost use Rattle.write.specs.Steps.{holds};
 ghost use Rattle.play.specs.Turns.{passes as passesRule, waits as waitsRule, movedAs, created, touched, turnOn, halt as haltRule, haltOf, far as farRule, facing as facingRule, over as overRule, ranOn, wentOn};
 
 // ---- a call that takes one turn

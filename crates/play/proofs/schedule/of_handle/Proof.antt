@@ -7,19 +7,19 @@ use Rattle.play.proofs.schedule.of_handle.Statement.{statement}
 use Rattle.play.proofs.schedule.of_handle.Tie as tie
 
 returns : tie.Need-returns
-returns c = by-number (c .before .args .f) 5 (omega (arith, c .if1 .taken))
+returns c = by-number (c .before .args .f) 1 (omega (arith, c .if1 .taken))
 
 returns-2 : tie.Need-returns-2
-returns-2 c = by-number (c .before .before .args .f) 4 (omega (arith, c .if2 .taken))
+returns-2 c = by-number (c .before .before .args .f) 2 (omega (arith, c .if2 .taken))
 
 returns-3 : tie.Need-returns-3
 returns-3 c = by-number (c .before .before .before .args .f) 3 (omega (arith, c .if3 .taken))
 
 returns-4 : tie.Need-returns-4
-returns-4 c = by-number (c .before .before .before .before .args .f) 2 (omega (arith, c .if4 .taken))
+returns-4 c = by-number (c .before .before .before .before .args .f) 4 (omega (arith, c .if4 .taken))
 
 returns-5 : tie.Need-returns-5
-returns-5 c = by-number (c .before .before .before .before .before .args .f) 1 (omega (arith, c .if5 .taken))
+returns-5 c = by-number (c .before .before .before .before .before .args .f) 5 (omega (arith, c .if5 .taken))
 
 returns-6 : tie.Need-returns-6
 returns-6 c =
