@@ -73,45 +73,45 @@ pub fn count(s: &[u8]) -> usize
 }
 
 // What a record's fields mean: a handle's call, 2 to 7.
-fn of_handle(f: Fields) -> Call
+fn handle_of(f: Fields) -> Handle
     requires { ⌜ (2 ≤ f .call) × (f .call < 8) ⌝ }
-    ensures { λ r. ⌜ r ≡ callOf f ⌝ }
+    ensures { λ r. ⌜ Call.On (f .slot) r ≡ callOf f ⌝ }
 {
     let call = f.call;
     if call == 2 {
-        return Call::On(f.slot, Handle::Drop);
+        return Handle::Drop;
     }
     if call == 3 {
-        return Call::On(f.slot, Handle::Enter);
+        return Handle::Enter;
     }
     if call == 4 {
-        return Call::On(f.slot, Handle::GoOn);
+        return Handle::GoOn;
     }
     if call == 5 {
-        return Call::On(f.slot, Handle::Release(f.guard));
+        return Handle::Release(f.guard);
     }
     if call == 6 {
-        return Call::On(f.slot, Handle::LookUp(f.guard, f.key));
+        return Handle::LookUp(f.guard, f.key);
     }
-    Call::On(f.slot, Handle::WasDropped)
+    Handle::WasDropped
 }
 
 // A beginning, 9 to 12.
-fn of_opening(f: Fields) -> Call
+fn opening_of(f: Fields) -> Opening
     requires { ⌜ (9 ≤ f .call) × (f .call < 13) ⌝ }
-    ensures { λ r. ⌜ r ≡ callOf f ⌝ }
+    ensures { λ r. ⌜ Call.Open r ≡ callOf f ⌝ }
 {
     let call = f.call;
     if call == 9 {
-        return Call::Open(Opening::Publish);
+        return Opening::Publish;
     }
     if call == 10 {
-        return Call::Open(Opening::Try);
+        return Opening::Try;
     }
     if call == 11 {
-        return Call::Open(Opening::Flush);
+        return Opening::Flush;
     }
-    Call::Open(Opening::Take)
+    Opening::Take
 }
 
 // Any call.
@@ -123,13 +123,15 @@ fn call_of(f: Fields) -> Call
         return Call::Create;
     }
     if call < 8 {
-        return of_handle(f);
+        let h = handle_of(f);
+        return Call::On(f.slot, h);
     }
     if call == 8 {
         return Call::Append(f.kind, f.key, f.amount);
     }
     if call < 13 {
-        return of_opening(f);
+        let o = opening_of(f);
+        return Call::Open(o);
     }
     if call == 13 {
         return Call::Step;

@@ -12,20 +12,20 @@ use Rattle.play.proofs.schedule.call_of.Tie as tie
 returns : tie.Need-returns
 returns c = by-number (c .before .args .f) 0 (omega (arith, c .if1 .taken))
 
-of-handle-requires : tie.Need-of-handle-requires
-of-handle-requires c κs = (c .before .if1 .left, c .if2 .taken)
+handle-of-requires : tie.Need-handle-of-requires
+handle-of-requires c κs = (c .before .if1 .left, c .if2 .taken)
 
 returns-2 : tie.Need-returns-2
-returns-2 c = c .of-handle .ensures
+returns-2 c = c .handle-of .ensures
 
 returns-3 : tie.Need-returns-3
 returns-3 c = by-number (c .before .before .before .args .f) 7 (omega (arith, c .if3 .taken))
 
-of-opening-requires : tie.Need-of-opening-requires
-of-opening-requires c κs = (omega (arith, c .before .before .if2 .left, c .before .if3 .left), c .if4 .taken)
+opening-of-requires : tie.Need-opening-of-requires
+opening-of-requires c κs = (omega (arith, c .before .before .if2 .left, c .before .if3 .left), c .if4 .taken)
 
 returns-4 : tie.Need-returns-4
-returns-4 c = c .of-opening .ensures
+returns-4 c = c .opening-of .ensures
 
 returns-5 : tie.Need-returns-5
 returns-5 c = by-number (c .before .before .before .before .before .args .f) 12 (omega (arith, c .if5 .taken))
@@ -37,4 +37,4 @@ returns-6 c =
     sym (List·getD-eq-default (callsBy f) Run past)
 
 pub call-of-spec : {M : Type 1} → statement M
-call-of-spec = tie.close (tie.spec returns of-handle-requires returns-2 returns-3 of-opening-requires returns-4 returns-5 returns-6)
+call-of-spec = tie.close (tie.spec returns handle-of-requires returns-2 returns-3 opening-of-requires returns-4 returns-5 returns-6)

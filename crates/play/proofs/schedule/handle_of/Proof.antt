@@ -3,8 +3,8 @@ use Prim.Native.Nat.{_-_}
 use mathlib.Core.Path.{_≡_}
 use native.Mathlib.Omega.{arith}
 use Rattle.play.proofs.Records.{by-number}
-use Rattle.play.proofs.schedule.of_handle.Statement.{statement}
-use Rattle.play.proofs.schedule.of_handle.Tie as tie
+use Rattle.play.proofs.schedule.handle_of.Statement.{statement}
+use Rattle.play.proofs.schedule.handle_of.Tie as tie
 
 returns : tie.Need-returns
 returns c = by-number (c .before .args .f) 1 (omega (arith, c .if1 .taken))
@@ -27,5 +27,5 @@ returns-6 c =
     let last : s .args .f .call - 1 ≡ 6 = omega (arith, s .pre .0, s .pre .1, c .before .before .before .before .if1 .left, c .before .before .before .if2 .left, c .before .before .if3 .left, c .before .if4 .left, c .if5 .left) in
     by-number (s .args .f) 6 last
 
-pub of-handle-spec : {M : Type 1} → statement M
-of-handle-spec = tie.close (tie.spec returns returns-2 returns-3 returns-4 returns-5 returns-6)
+pub handle-of-spec : {M : Type 1} → statement M
+handle-of-spec = tie.close (tie.spec returns returns-2 returns-3 returns-4 returns-5 returns-6)

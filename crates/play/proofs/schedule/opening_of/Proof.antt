@@ -3,8 +3,8 @@ use Prim.Native.Nat.{_-_}
 use mathlib.Core.Path.{_≡_}
 use native.Mathlib.Omega.{arith}
 use Rattle.play.proofs.Records.{by-number}
-use Rattle.play.proofs.schedule.of_opening.Statement.{statement}
-use Rattle.play.proofs.schedule.of_opening.Tie as tie
+use Rattle.play.proofs.schedule.opening_of.Statement.{statement}
+use Rattle.play.proofs.schedule.opening_of.Tie as tie
 
 returns : tie.Need-returns
 returns c = by-number (c .before .args .f) 8 (omega (arith, c .if1 .taken))
@@ -21,5 +21,5 @@ returns-4 c =
     let last : s .args .f .call - 1 ≡ 11 = omega (arith, s .pre .0, s .pre .1, c .before .before .if1 .left, c .before .if2 .left, c .if3 .left) in
     by-number (s .args .f) 11 last
 
-pub of-opening-spec : {M : Type 1} → statement M
-of-opening-spec = tie.close (tie.spec returns returns-2 returns-3 returns-4)
+pub opening-of-spec : {M : Type 1} → statement M
+opening-of-spec = tie.close (tie.spec returns returns-2 returns-3 returns-4)
