@@ -486,9 +486,9 @@ left-bound c h = leftAt-bound c h (c .phase)
 abbrev pub manySteps : ℕ
 manySteps = 2 ^ 32
 
-most-small : mostLeft ≤ manySteps
+most-small : mostLeft < manySteps
 unfolding slotCount
 most-small = omega arith
 
-pub left-small : (c : Control) → Whole c → left c ≤ manySteps
+pub left-small : (c : Control) → Whole c → left c < manySteps
 left-small c w = omega (arith, left-bound c (w .room), most-small)

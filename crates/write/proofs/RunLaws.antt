@@ -193,7 +193,7 @@ module _ (n : ℕ) (c : Control) (ss : List Slot) (es l r g : List ℕ) where
 -- a run that is to give o, with k steps in all if none is held, has made n and is here: from here it gives o
 pub record Goes (o : Lent Reply) (k n : ℕ) (c : Control) (ss : List Slot) (es l r g : List ℕ) : Type 0 where
   pub whole : Whole c
-  pub most : k ≤ manySteps
+  pub most : k < manySteps
   pub count : n + left c ≡ k
   pub same : from n c ss es l r g ≡ o
 
@@ -206,7 +206,7 @@ goes-start st l r g w =
 
 module _ {o : Lent Reply} {k n : ℕ} {c : Control} {ss : List Slot} {es l r g : List ℕ} (h : Goes o k n c ss es l r g) where
   -- the count does not run over, and while a call is under way there is one more to make
-  pub goes-few : n ≤ manySteps
+  pub goes-few : n < manySteps
   goes-few = omega (arith, h .count, h .most)
 
   pub goes-more : underway (c .phase) ≡ true → n < k
