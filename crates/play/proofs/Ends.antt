@@ -1,8 +1,9 @@
 -- Known ends of the player, computed over the rules.
-use Prim.Native.Nat.{ℕ}
+use Prim.Native.Nat.{ℕ, _+_}
 use mathlib.Core.Path.{_≡_, refl}
 use mathlib.Core.List.{List, [], _∷_, _++_, map}
 use lib.ListN.{replicate}
+use Rattle.read.specs.Machine.{slotTotal}
 use Rattle.play.specs.Schedule.{bytesOf}
 use Rattle.play.specs.Player.{refusalOf, output, playRule}
 use Rattle.play.proofs.Computes.{rules}
@@ -29,7 +30,7 @@ done v = 0 ∷ v ∷ 0 ∷ 0 ∷ 0 ∷ 0 ∷ 0 ∷ 0 ∷ 0 ∷ []
 p1-plays :
     playRule p1 (replicate 65 170)
     ≡ output (record { answer = 0; written = 63 })
-    (done 1 ++ (done 0 ++ (done 0 ++ (done 17 ++ (done 0 ++ (done 0 ++ (done 3 ++ (170 ∷ 170 ∷ []))))))))
+    (done 1 ++ (done 0 ++ (done 0 ++ (done (slotTotal + 1) ++ (done 0 ++ (done 0 ++ (done 3 ++ (170 ∷ 170 ∷ []))))))))
 unfolding rules
 p1-plays = refl
 

@@ -1,5 +1,5 @@
 -- Step and run, step by step: what is known of a call that is under way, before each step and behind the last.
-use Prim.Native.Nat.{ℕ, suc, _+_, _-_, _≤_, _<_}
+use Prim.Native.Nat.{ℕ, suc, _+_, _-_, _<_}
 use mathlib.Core.Path.{_≡_, refl, sym, ap, subst, _∙_}
 use mathlib.Core.Bool.{Bool, true, false, not, _||_, true≢false}
 use mathlib.Core.List.{List}
@@ -34,7 +34,7 @@ use Rattle.write.specs.Begins.{stepSigns}
 use Rattle.write.specs.Runs.{lift, stepOn, afterStep, runOn}
 use Rattle.write.specs.Machine.{going, callOn}
 use Rattle.write.specs.World.{answerOf, valueOf, worldOf}
-use Rattle.write.proofs.Left.{step-value, step-lowers, left-small}
+use Rattle.write.proofs.Left.{step-value, step-lowers, manySteps, left-small}
 use Rattle.write.proofs.NeverBroken.{Sound, sound-step}
 use Rattle.play.specs.declared.turns.Far.{Far}
 use Rattle.play.specs.Player.{machine}
@@ -222,7 +222,7 @@ said-as q l r g c ss es f = record {
 pub record Goes (o : Lent Reply) (run : Bool) (n : ℕ) (c : Control) (ss : List Slot) (es l r g : List ℕ) : Type 0 where
   pub same : o ≡ due run n (stateOf c ss es) l r g
   pub busy : underway (c .phase) ≡ true
-  pub few : n + left c ≤ 1000
+  pub few : n + left c < manySteps
 
 pub record Going (o : Lent Reply) (run : Bool) (f : Far) (c : Control) (ss : List Slot) (es l r g : List ℕ) : Type 0 where
   pub sound : Sound (stateOf c ss es) l r g
@@ -265,7 +265,7 @@ module _ (n : ℕ) (c : Control) (ss : List Slot) (es l r g : List ℕ) (h : Sou
   -- the next step is at hand
   faces :
       {o : Lent Reply} (run : Bool) → (underway (c .phase) ≡ true → o ≡ due run n st l r g) →
-      ((number halts ≡ 0 → ⊥) → o ≡ lent (record { answer = halts; value = n; state = st }) l r g) → n + left c ≤ 1000 →
+      ((number halts ≡ 0 → ⊥) → o ≡ lent (record { answer = halts; value = n; state = st }) l r g) → n + left c < manySteps →
       Going o run (facing n halts) c ss es l r g
   faces run x y z = record {
     sound = h;

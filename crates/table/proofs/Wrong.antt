@@ -1,17 +1,20 @@
 -- Wrong programs, as definitions on lists, and for each a proof that the contract's promise (`Promises`) is false of it: one call, on
 -- values that the source's types have, where what the program does wrong is read off.
 use Prim.Native.Nat.{ℕ, zero, suc, _+_, _-_, _*_, _^_, _%_}
-use mathlib.Core.Path.{_≡_, refl}
+use mathlib.Core.Path.{_≡_, refl, ap, _∙_}
 use mathlib.Core.Bool.{Bool, true, false, not, _&&_, _||_}
 use mathlib.Core.List.{List, [], _∷_, _++_}
 use lib.ListN.{length, getD, take, drop, set, replicate}
 use lib.Dec.{eqb, leb, ltb}
+use native.Mathlib.Omega.{arith}
 use Rattle.table.specs.declared.Answer.{Answer}
 use Rattle.table.specs.declared.Answer.the-variants.{Done, Length, Broken, Operation}
 use Rattle.table.specs.Answers.{number}
 use Rattle.table.specs.Seek.{seek}
-use Rattle.table.specs.Copy.{pairs, words, entries, spill, keyAt, countAt, usedOf, pairOf, placeOf, present, opened, closed, inserted, placed, added, dropped, removed, zeros, lawful, fits, Out, applyRule, lookRule}
+use Rattle.table.specs.Copy.{pairs, words, entries, spill, keyAt, countAt, usedOf, pairOf, placeOf, present, opened, closed, inserted, placed, added, dropped, removed, zeros, applied, lawful, fits, Out, applyRule, lookRule}
 use Rattle.table.proofs.Computes.{rules, apart}
+use Rattle.table.proofs.CopyWords.{getD-zeros}
+use Rattle.table.proofs.CopyFind.{added-cases}
 use Rattle.table.proofs.Contracts.{below, Words, slice}
 use Rattle.table.proofs.Promises.{NumberPromise, LawfulPromise, FitPromise, LookPromise, UsedPromise, ZeroPromise}
 use Rattle.table.proofs.Promises.{ClosePromise, ApplyPromise, AddPromise, DropPromise, ClearPromise}
@@ -89,13 +92,13 @@ fromOne-wrong h = apart itself refl (h Done refl)
 
 -- ---- fit
 
--- 513 entries pass
+-- one entry too many passes
 abbrev oneMore : List ℕ → Answer
 oneMore w = elim (eqb (length w) words) [ true ↦ elim (leb (entries w) (pairs + 1)) [ true ↦ Done | false ↦ Broken ] | false ↦ Length ]
 
 oneMore-wrong : FitPromise oneMore → ⊥
 unfolding rules
-oneMore-wrong h = apart number refl (h (copy (513 ∷ []) refl) refl)
+oneMore-wrong h = apart number refl (h (copy ((pairs + 1) ∷ []) refl) refl)
 
 -- any length passes
 abbrev anyLength : List ℕ → Answer
@@ -288,12 +291,25 @@ atEnd-wrong h = apart (word 2) refl (h 3 1 seven refl)
 
 -- a full copy loses the key without a word
 abbrev noSpill : ℕ → ℕ → List ℕ → Out
-noSpill key amount =
-    calling (λ w. elim (present key w || ltb (entries w) pairs) [ true ↦ added key amount w | false ↦ w ]) 1 key amount
+noSpill key amount = calling (λ w. set (added key amount w) 1 (spill w)) 1 key amount
 
+-- a full copy whose every key is 0
+abbrev full : Words
+full = copy (pairs ∷ []) refl
+
+zero-key : (i : ℕ) → keyAt (full .list) i ≡ 0
+zero-key i =
+    let e : 2 * i + 2 ≡ suc (2 * i + 1) = omega arith in
+    ap (λ (x : ℕ). wordAt x (full .list)) e ∙ getD-zeros (words - 1) (2 * i + 1)
+
+-- by a law: to compute the search takes as many steps as the square of the pairs
 noSpill-wrong : AddPromise noSpill → ⊥
-unfolding rules
-noSpill-wrong h = apart (word 1) refl (h 7 1 (copy (512 ∷ []) refl) refl)
+unfolding applied lawful applyRule
+noSpill-wrong h =
+    apart (word 1)
+    (added-cases (λ v. eqb (wordAt 1 (set v 1 0)) (wordAt 1 v) ≡ false) 7 1 (full .list)
+    (λ i p. absurd (omega (arith, zero-key i, p .same))) (λ i a p l. absurd (omega (arith, l))) (λ a l. refl))
+    (h 7 1 full refl)
 
 -- ---- drop
 

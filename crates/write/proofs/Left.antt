@@ -1,5 +1,5 @@
 -- The count: how many steps are left of a call. A step that is made lowers it by one, and it is 0 exactly where no call is under way.
-use Prim.Native.Nat.{ℕ, zero, suc, _+_, _-_, _*_, _≤_, _<_}
+use Prim.Native.Nat.{ℕ, zero, suc, _+_, _-_, _*_, _^_, _≤_, _<_}
 use mathlib.Core.Path.{_≡_, refl, sym, ap, _∙_}
 use mathlib.Core.Bool.{Bool, true, false, not, _&&_, true≢false}
 use mathlib.Core.List.{List}
@@ -482,10 +482,13 @@ leftAt-bound c h Gone = omega arith
 pub left-bound : (c : Control) → c .length ≤ logRoom → left c ≤ mostLeft
 left-bound c h = leftAt-bound c h (c .phase)
 
--- as a number
-most-small : mostLeft ≤ 1000
+-- a count of steps stays far below what a word holds, however many slots there are
+abbrev pub manySteps : ℕ
+manySteps = 2 ^ 32
+
+most-small : mostLeft < manySteps
 unfolding slotCount
 most-small = omega arith
 
-pub left-small : (c : Control) → Whole c → left c ≤ 1000
+pub left-small : (c : Control) → Whole c → left c < manySteps
 left-small c w = omega (arith, left-bound c (w .room), most-small)

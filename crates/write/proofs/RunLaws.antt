@@ -28,7 +28,7 @@ use Rattle.write.specs.Runs.{snapAt, lift, stepOn, afterStep, ranOut, en
 use Rattle.write.proofs.Count.{left, steps}
 use Rattle.write.proofs.Cases.{going-on}
 use Rattle.write.proofs.Control.{Placed, Whole, whole-step}
-use Rattle.write.proofs.Left.{step-answer, made-unless-polls, poll-passed, poll-stopped, lastPoll-passed, lastPoll-stopped, step-lowers, idle-left, underway-left, left-idle, left-underway, left-small}
+use Rattle.write.proofs.Left.{step-answer, made-unless-polls, poll-passed, poll-stopped, lastPoll-passed, lastPoll-stopped, step-lowers, idle-left, underway-left, left-idle, left-underway, manySteps, left-small}
 use Rattle.read.proofs.Cases.{stateOf, withLock}
 
 -- where a list is read within its length, the default does not matter
@@ -193,7 +193,7 @@ module _ (n : ℕ) (c : Control) (ss : List Slot) (es l r g : List ℕ) where
 -- a run that is to give o, with k steps in all if none is held, has made n and is here: from here it gives o
 pub record Goes (o : Lent Reply) (k n : ℕ) (c : Control) (ss : List Slot) (es l r g : List ℕ) : Type 0 where
   pub whole : Whole c
-  pub most : k ≤ 1000
+  pub most : k < manySteps
   pub count : n + left c ≡ k
   pub same : from n c ss es l r g ≡ o
 
@@ -206,7 +206,7 @@ goes-start st l r g w =
 
 module _ {o : Lent Reply} {k n : ℕ} {c : Control} {ss : List Slot} {es l r g : List ℕ} (h : Goes o k n c ss es l r g) where
   -- the count does not run over, and while a call is under way there is one more to make
-  pub goes-few : n ≤ 1000
+  pub goes-few : n < manySteps
   goes-few = omega (arith, h .count, h .most)
 
   pub goes-more : underway (c .phase) ≡ true → n < k

@@ -354,7 +354,7 @@ oneMore kind key amount c s e l r g =
 
 append-oneMore-wrong : AppendPromise (appends oneMore) → ⊥
 unfolding rules
-append-oneMore-wrong h = apart answered refl (h 1 7 3 (with1 (fitting Idle Publish false false 256 0) noSlot 0) blank blank fullLog refl)
+append-oneMore-wrong h = apart answered refl (h 1 7 3 (with1 (fitting Idle Publish false false logRoom 0) noSlot 0) blank blank fullLog refl)
 
 -- publish: the swap at its beginning
 abbrev swapsAtOnce : Beginning
@@ -482,7 +482,7 @@ run-inventsValue-wrong h = apart valued refl (h heldAt1 blank blank blankLog ref
 -- a run that makes one step
 run-oneStep-wrong : RunPromise (judging (going 13 (runWhile stepOn 1 0))) → ⊥
 unfolding rules
-run-oneStep-wrong h = apart phased refl (h (with1 (fitting (Snap 14) Publish false false 0 0) noSlot 0) blank blank blankLog refl)
+run-oneStep-wrong h = apart phased refl (h (with1 (fitting (Snap (slotCount - 2)) Publish false false 0 0) noSlot 0) blank blank blankLog refl)
 
 -- a run whose take polls by the last publish's snapshots: a reader that entered since is passed
 run-oldSnapshots-wrong : RunPromise (judging (going 13 (runWhile (stepBy oldSnapshots) enough 0))) → ⊥
