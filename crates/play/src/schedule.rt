@@ -119,10 +119,10 @@ fn call_of(f: Fields) -> Call
     ensures { λ r. ⌜ r ≡ callOf f ⌝ }
 {
     let call = f.call;
-    if call < 2 {
-        return Call::Create;
-    }
     if call < 8 {
+        if call < 2 {
+            return Call::Create;
+        }
         let h = handle_of(f);
         return Call::On(f.slot, h);
     }

@@ -8,12 +8,6 @@ use Rattle.place.proofs.by_value.Tie as tie
 returns : tie.Need-returns
 returns c = let a = c .before .before .args in sym (release-free (a .guard) (a .s) (c .if1 .taken))
 
-is-open-requires : tie.Need-is-open-requires
-is-open-requires c κs = search needs
-
-released-requires : tie.Need-released-requires
-released-requires c κs = search needs
-
 returns-2 : tie.Need-returns-2
 returns-2 c =
     let x = c .before .before .before .before in
@@ -28,4 +22,4 @@ returns-3 c =
     sym (release-shut (a .guard) (a .s) (x .if1 .left) (sym (c .before .is-open .ensures) ∙ c .if2 .left))
 
 pub by-value-spec : {M : Type 1} → statement M
-by-value-spec = tie.close (tie.spec returns is-open-requires released-requires returns-2 returns-3)
+by-value-spec = tie.close (tie.spec returns (λ c κs. search needs) (λ c κs. search needs) returns-2 returns-3)

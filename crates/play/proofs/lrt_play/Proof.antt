@@ -30,54 +30,21 @@ long t = omega (arith, flawless-within (t .before .before .before .before .befor
 abbrev zero : (n : ℕ) → length (replicate {A = ℕ} n 0) ≡ n
 zero n = length-replicate {A = ℕ} n 0
 
-check-requires : tie.Need-check-requires
-check-requires c κs = search needs
-
 returns : tie.Need-returns
 returns c =
     let a = c .before .before .before .before .before .args in
     play-flawed (a .schedule .now) (a .out .now) (ap (λ (f : Flaw). f .answer) (c .before .before .check .ensures)) (c .if1 .taken)
-
-count-requires : tie.Need-count-requires
-count-requires c κs = search needs
-
-mul-if2 : tie.Need-mul-if2
-mul-if2 c = search needs
 
 returns-2 : tie.Need-returns-2
 returns-2 c =
     let a = c .before .before .before .before .before .before .before .args in
     play-short (a .schedule .now) (a .out .now) (sound (c .before .before)) (omega (arith, c .if2 .taken, c .before .count .ensures))
 
-slice-aggregate-start : tie.Need-slice-aggregate-start
-slice-aggregate-start c = search needs
-
-slice-aggregate-start-2 : tie.Need-slice-aggregate-start-2
-slice-aggregate-start-2 c = search needs
-
-slice-aggregate-start-3 : tie.Need-slice-aggregate-start-3
-slice-aggregate-start-3 c = search needs
-
-start-requires : tie.Need-start-requires
-start-requires c κs = search needs
-
 sub-play-on : tie.Need-sub-play-on
 sub-play-on c = long c
 
 part-play-on-start : tie.Need-part-play-on-start
 part-play-on-start c = long c
-
-part-play-on-end : tie.Need-part-play-on-end
-part-play-on-end c = search needs
-
-slice-aggregate-play-on : tie.Need-slice-aggregate-play-on
-slice-aggregate-play-on c = search needs
-
-slice-aggregate-play-on-2 : tie.Need-slice-aggregate-play-on-2
-slice-aggregate-play-on-2 c = search needs
-
-slice-aggregate-play-on-3 : tie.Need-slice-aggregate-play-on-3
-slice-aggregate-play-on-3 c = search needs
 
 play-on-requires : tie.Need-play-on-requires
 play-on-requires c κs =
@@ -90,9 +57,6 @@ play-on-requires c κs =
       started-whole _ _ _ (zero words) (zero words) (zero logWords) e,
       fit _ (part-to-end s 5) _,
     )
-
-same-length : tie.Need-same-length
-same-length c = search needs
 
 returns-3 : tie.Need-returns-3
 returns-3 c =
@@ -109,21 +73,21 @@ pub lrt-play-spec : {M : Type 1} → statement M
 lrt-play-spec =
     tie.close
     (tie.spec
-    check-requires
+    (λ c κs. search needs)
     returns
-    count-requires
-    mul-if2
+    (λ c κs. search needs)
+    (λ c. search needs)
     returns-2
-    slice-aggregate-start
-    slice-aggregate-start-2
-    slice-aggregate-start-3
-    start-requires
+    (λ c. search needs)
+    (λ c. search needs)
+    (λ c. search needs)
+    (λ c κs. search needs)
     sub-play-on
     part-play-on-start
-    part-play-on-end
-    slice-aggregate-play-on
-    slice-aggregate-play-on-2
-    slice-aggregate-play-on-3
+    (λ c. search needs)
+    (λ c. search needs)
+    (λ c. search needs)
+    (λ c. search needs)
     play-on-requires
-    same-length
+    (λ c. search needs)
     returns-3)

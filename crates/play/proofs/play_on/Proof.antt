@@ -119,15 +119,6 @@ loop-holds c =
 decode-requires : tie.Need-decode-requires Inv-loop2 μ-loop2 Inv-loop3 μ-loop3 Inv-loop μ-loop
 decode-requires c κs = plays-record (c .before .loop .inv) (c .loop-test .taken)
 
-none-requires : tie.Need-none-requires Inv-loop2 μ-loop2 Inv-loop3 μ-loop3 Inv-loop μ-loop
-none-requires c κs = search needs
-
-is-going-requires : tie.Need-is-going-requires Inv-loop2 μ-loop2 Inv-loop3 μ-loop3 Inv-loop μ-loop
-is-going-requires c κs = search needs
-
-place-requires : tie.Need-place-requires Inv-loop2 μ-loop2 Inv-loop3 μ-loop3 Inv-loop μ-loop
-place-requires c κs = search needs
-
 mul-facing : tie.Need-mul-facing Inv-loop2 μ-loop2 Inv-loop3 μ-loop3 Inv-loop μ-loop
 mul-facing c = omega (arith, placed c)
 
@@ -136,9 +127,6 @@ mul-facing-2 c = omega (arith, placed (c .before))
 
 array-read-facing : tie.Need-array-read-facing Inv-loop2 μ-loop2 Inv-loop3 μ-loop3 Inv-loop μ-loop
 array-read-facing c = placed (c .before)
-
-facing-requires : tie.Need-facing-requires Inv-loop2 μ-loop2 Inv-loop3 μ-loop3 Inv-loop μ-loop
-facing-requires c κs = search needs
 
 loop2-holds : tie.Need-loop2-holds Inv-loop2 μ-loop2 Inv-loop3 μ-loop3 Inv-loop μ-loop
 loop2-holds c =
@@ -156,9 +144,6 @@ mul-advance c = omega (arith, inside c)
 mul-advance-2 : tie.Need-mul-advance-2 Inv-loop2 μ-loop2 Inv-loop3 μ-loop3 Inv-loop μ-loop
 mul-advance-2 c = omega (arith, inside (c .before))
 
-advance-requires : tie.Need-advance-requires Inv-loop2 μ-loop2 Inv-loop3 μ-loop3 Inv-loop μ-loop
-advance-requires c κs = search needs
-
 mul-own : tie.Need-mul-own Inv-loop2 μ-loop2 Inv-loop3 μ-loop3 Inv-loop μ-loop
 mul-own c = omega (arith, inside (c .before .before .before .before .before .before .before .before .before .before .before .before))
 
@@ -170,9 +155,6 @@ mul-snaps c = omega (arith, inside (c .before .before .before .before .before .b
 
 array-write-snaps : tie.Need-array-write-snaps Inv-loop2 μ-loop2 Inv-loop3 μ-loop3 Inv-loop μ-loop
 array-write-snaps c = inside (c .before .before .before .before .before .before .before .before .before .before .before .before .before)
-
-place-requires-2 : tie.Need-place-requires-2 Inv-loop2 μ-loop2 Inv-loop3 μ-loop3 Inv-loop μ-loop
-place-requires-2 c κs = search needs
 
 mul-went-on : tie.Need-mul-went-on Inv-loop2 μ-loop2 Inv-loop3 μ-loop3 Inv-loop μ-loop
 mul-went-on c = omega (arith, placed-next c)
@@ -200,17 +182,11 @@ loop2-again c =
     let q = going-steps (going b) (v .0 .sound) (v .1) (own b _) x (c .before .before .place2 .ensures) (next-slot (going b) (v .0 .sound) (v .1) (own b _) x _ (placed-next (c .before .before))) (c .went-on .ensures) in
     (q .0, c .before .before .place2 .ensures)
 
-named-requires : tie.Need-named-requires Inv-loop2 μ-loop2 Inv-loop3 μ-loop3 Inv-loop μ-loop
-named-requires c κs = search needs
-
 loop3-holds : tie.Need-loop3-holds Inv-loop2 μ-loop2 Inv-loop3 μ-loop3 Inv-loop μ-loop
 loop3-holds c = ap (sought (c .before .before .before .before .decode .result) (c .before .before .before .before .before .before .loop .slots)) (c .named .ensures)
 
 mul-passes : tie.Need-mul-passes Inv-loop2 μ-loop2 Inv-loop3 μ-loop3 Inv-loop μ-loop
 mul-passes c = omega (arith, within-below (c .loop3 .i))
-
-passes-requires : tie.Need-passes-requires Inv-loop2 μ-loop2 Inv-loop3 μ-loop3 Inv-loop μ-loop
-passes-requires c κs = search needs
 
 add-i : tie.Need-add-i Inv-loop2 μ-loop2 Inv-loop3 μ-loop3 Inv-loop μ-loop
 add-i c = omega (arith, below c)
@@ -227,14 +203,8 @@ loop3-again c =
 mul-turn : tie.Need-mul-turn Inv-loop2 μ-loop2 Inv-loop3 μ-loop3 Inv-loop μ-loop
 mul-turn c = omega (arith, within-below (c .before .before .before .loop3 .i))
 
-turn-requires : tie.Need-turn-requires Inv-loop2 μ-loop2 Inv-loop3 μ-loop3 Inv-loop μ-loop
-turn-requires c κs = search needs
-
 mul-slots-2 : tie.Need-mul-slots-2 Inv-loop2 μ-loop2 Inv-loop3 μ-loop3 Inv-loop μ-loop
 mul-slots-2 c = omega (arith, within-below (c .before .before .before .before .before .before .before .before .before .before .before .before .before .before .before .loop3 .i))
-
-over-requires : tie.Need-over-requires Inv-loop2 μ-loop2 Inv-loop3 μ-loop3 Inv-loop μ-loop
-over-requires c κs = search needs
 
 put-requires : tie.Need-put-requires Inv-loop2 μ-loop2 Inv-loop3 μ-loop3 Inv-loop μ-loop
 put-requires c κs = plays-room (c .before .before .before .before .before .before .loop .inv) (c .before .before .before .before .before .loop-test .taken)
@@ -298,9 +268,6 @@ array-copy-out-turn c = within-below (c .before .before .before .loop3 .i)
 array-set-from-slots-2 : tie.Need-array-set-from-slots-2 Inv-loop2 μ-loop2 Inv-loop3 μ-loop3 Inv-loop μ-loop
 array-set-from-slots-2 c = within-below (c .before .before .before .before .before .before .before .before .before .before .before .before .before .before .before .loop3 .i)
 
-mul-end : tie.Need-mul-end Inv-loop2 μ-loop2 Inv-loop3 μ-loop3 Inv-loop μ-loop
-mul-end c = search needs
-
 pub play-on-spec : {M : Type 1} → statement M
 play-on-spec =
     tie.close
@@ -311,30 +278,30 @@ play-on-spec =
     μ-loop3
     Inv-loop
     μ-loop
-    mul-end
+    (λ c. search needs)
     loop-holds
     decode-requires
-    none-requires
-    is-going-requires
-    place-requires
+    (λ c κs. search needs)
+    (λ c κs. search needs)
+    (λ c κs. search needs)
     mul-facing
     array-copy-out-facing
     mul-facing-2
     array-read-facing
-    facing-requires
+    (λ c κs. search needs)
     loop2-holds
     mul-advance
     array-copy-out-advance
     mul-advance-2
     array-read-advance
-    advance-requires
+    (λ c κs. search needs)
     mul-own
     array-copy-out-own
     mul-slots
     array-set-from-slots
     mul-snaps
     array-write-snaps
-    place-requires-2
+    (λ c κs. search needs)
     mul-went-on
     array-copy-out-went-on
     mul-went-on-2
@@ -342,20 +309,20 @@ play-on-spec =
     went-on-requires
     loop2-less
     loop2-again
-    named-requires
+    (λ c κs. search needs)
     loop3-holds
     mul-passes
     array-copy-out-passes
-    passes-requires
+    (λ c κs. search needs)
     add-i
     loop3-less
     loop3-again
     mul-turn
     array-copy-out-turn
-    turn-requires
+    (λ c κs. search needs)
     mul-slots-2
     array-set-from-slots-2
-    over-requires
+    (λ c κs. search needs)
     put-requires
     add-from
     add-to

@@ -6,24 +6,6 @@ use Rattle.read.proofs.Cases.{new-refused, new-judged}
 use Rattle.read.proofs.create.Statement.{statement}
 use Rattle.read.proofs.create.Tie as tie
 
-judge-requires : tie.Need-judge-requires
-judge-requires c κs = search needs
-
-enum-known-v : tie.Need-enum-known-v
-enum-known-v c = search needs
-
-refusal-requires : tie.Need-refusal-requires
-refusal-requires c κs = search needs
-
-enum-told : tie.Need-enum-told
-enum-told c = search needs
-
-first-free-requires : tie.Need-first-free-requires
-first-free-requires c κs = search needs
-
-create-reply-requires : tie.Need-create-reply-requires
-create-reply-requires c κs = search needs
-
 returns : tie.Need-returns
 returns c =
     let a = c .before .before .before .before .before .before .before .before .before .args in
@@ -38,11 +20,11 @@ pub create-spec : {M : Type 1} → statement M
 create-spec =
     tie.close
     (tie.spec
-    judge-requires
-    enum-known-v
-    refusal-requires
-    enum-told
-    first-free-requires
-    create-reply-requires
+    (λ c κs. search needs)
+    (λ c. search needs)
+    (λ c κs. search needs)
+    (λ c. search needs)
+    (λ c κs. search needs)
+    (λ c κs. search needs)
     returns
     returns-2)

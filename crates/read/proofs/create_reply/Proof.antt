@@ -5,20 +5,8 @@ use Rattle.read.proofs.Cases.{create-refused, create-made, create-room}
 use Rattle.read.proofs.create_reply.Statement.{statement}
 use Rattle.read.proofs.create_reply.Tie as tie
 
-create-verdict-requires : tie.Need-create-verdict-requires
-create-verdict-requires c κs = search needs
-
-enum-known-v : tie.Need-enum-known-v
-enum-known-v c = search needs
-
-refusal-requires : tie.Need-refusal-requires
-refusal-requires c κs = search needs
-
 enum-told : tie.Need-enum-told
 enum-told c = search needs
-
-new-slot-requires : tie.Need-new-slot-requires
-new-slot-requires c κs = search needs
 
 with-slot-requires : tie.Need-with-slot-requires
 with-slot-requires c κs =
@@ -39,11 +27,11 @@ pub create-reply-spec : {M : Type 1} → statement M
 create-reply-spec =
     tie.close
     (tie.spec
-    create-verdict-requires
-    enum-known-v
-    refusal-requires
+    (λ c κs. search needs)
+    (λ c. search needs)
+    (λ c κs. search needs)
     enum-told
-    new-slot-requires
+    (λ c κs. search needs)
     with-slot-requires
     returns
     returns-2)

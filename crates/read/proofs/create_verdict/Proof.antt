@@ -7,9 +7,6 @@ use Rattle.read.proofs.Verdicts.{first-here, first-on, first-none}
 use Rattle.read.proofs.create_verdict.Statement.{statement}
 use Rattle.read.proofs.create_verdict.Tie as tie
 
-entry-requires : tie.Need-entry-requires
-entry-requires c κs = search needs
-
 returns : tie.Need-returns
 returns c = first-here _ _ _ (eq-eqb _ 7 (sym (c .before .entry .ensures) ∙ c .if1 .taken)) refl
 
@@ -26,4 +23,4 @@ returns-3 c =
     (first-on _ _ _ (lt-leb slotTotal _ (c .if2 .left)) (first-none refl))
 
 pub create-verdict-spec : {M : Type 1} → statement M
-create-verdict-spec = tie.close (tie.spec entry-requires returns returns-2 returns-3)
+create-verdict-spec = tie.close (tie.spec (λ c κs. search needs) returns returns-2 returns-3)

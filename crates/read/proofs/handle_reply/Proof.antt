@@ -6,20 +6,11 @@ use Rattle.read.proofs.Cases.{reply-past, reply-in}
 use Rattle.read.proofs.handle_reply.Statement.{statement}
 use Rattle.read.proofs.handle_reply.Tie as tie
 
-refusal-requires : tie.Need-refusal-requires
-refusal-requires c κs = search needs
-
 returns : tie.Need-returns
 unfolding slotCount
 returns c =
     let a = c .before .before .before .before .args in
     c .refusal .ensures ∙ sym (reply-past (a .slot) (a .h) (a .left .now) (a .right .now) (a .st) (c .before .if1 .taken))
-
-slot-at-requires : tie.Need-slot-at-requires
-slot-at-requires c κs = search needs
-
-handle-requires : tie.Need-handle-requires
-handle-requires c κs = search needs
 
 with-slot-requires : tie.Need-with-slot-requires
 unfolding slotCount
@@ -35,9 +26,9 @@ pub handle-reply-spec : {M : Type 1} → statement M
 handle-reply-spec =
     tie.close
     (tie.spec
-    refusal-requires
+    (λ c κs. search needs)
     returns
-    slot-at-requires
-    handle-requires
+    (λ c κs. search needs)
+    (λ c κs. search needs)
     with-slot-requires
     returns-2)

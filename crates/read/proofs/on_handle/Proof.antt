@@ -5,21 +5,6 @@ use Rattle.read.proofs.Cases.{call-refused, call-judged}
 use Rattle.read.proofs.on_handle.Statement.{statement}
 use Rattle.read.proofs.on_handle.Tie as tie
 
-judge-requires : tie.Need-judge-requires
-judge-requires c κs = search needs
-
-enum-known-v : tie.Need-enum-known-v
-enum-known-v c = search needs
-
-refusal-requires : tie.Need-refusal-requires
-refusal-requires c κs = search needs
-
-enum-told : tie.Need-enum-told
-enum-told c = search needs
-
-handle-reply-requires : tie.Need-handle-reply-requires
-handle-reply-requires c κs = search needs
-
 returns : tie.Need-returns
 returns c =
     let a = c .before .before .before .before .before .before .before .before .before .args in
@@ -34,10 +19,10 @@ pub on-handle-spec : {M : Type 1} → statement M
 on-handle-spec =
     tie.close
     (tie.spec
-    judge-requires
-    enum-known-v
-    refusal-requires
-    enum-told
-    handle-reply-requires
+    (λ c κs. search needs)
+    (λ c. search needs)
+    (λ c κs. search needs)
+    (λ c. search needs)
+    (λ c κs. search needs)
     returns
     returns-2)

@@ -5,14 +5,8 @@ use Rattle.table.specs.Copy.{lookRule}
 use Rattle.read.proofs.pair.Statement.{statement}
 use Rattle.read.proofs.pair.Tie as tie
 
-through-requires : tie.Need-through-requires
-through-requires c κs = search needs
-
-look-up-requires : tie.Need-look-up-requires
-look-up-requires c κs = search needs
-
 returns : tie.Need-returns
 returns c = c .look-up .ensures ∙ ap (lookRule (c .before .before .before .before .before .args .key)) (c .before .through .ensures)
 
 pub pair-spec : {M : Type 1} → statement M
-pair-spec = tie.close (tie.spec through-requires look-up-requires returns)
+pair-spec = tie.close (tie.spec (λ c κs. search needs) (λ c κs. search needs) returns)

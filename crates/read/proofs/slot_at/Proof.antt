@@ -7,20 +7,11 @@ use Rattle.read.proofs.Cases.{getD-within}
 use Rattle.read.proofs.slot_at.Statement.{statement}
 use Rattle.read.proofs.slot_at.Tie as tie
 
-no-slot-requires : tie.Need-no-slot-requires
-no-slot-requires c κs = search needs
-
 returns : tie.Need-returns
 returns c =
     let a = c .before .before .args in
     let e : length (a .st .slots) ≡ slotTotal = sym (length-map (a .st .slots) _) ∙ c .before .before .good .0 .1 .1 .1 .0 .1 .0 .1 in
     c .no-slot .ensures ∙ sym (List·getD-eq-default (a .st .slots) noSlot (rw e (c .before .if1 .taken)))
-
-mul-result : tie.Need-mul-result
-mul-result c = search needs
-
-array-copy-out-result : tie.Need-array-copy-out-result
-array-copy-out-result c = search needs
 
 returns-2 : tie.Need-returns-2
 returns-2 c =
@@ -30,4 +21,4 @@ returns-2 c =
 
 pub slot-at-spec : {M : Type 1} → statement M
 slot-at-spec =
-    tie.close (tie.spec no-slot-requires returns mul-result array-copy-out-result returns-2)
+    tie.close (tie.spec (λ c κs. search needs) returns (λ c. search needs) (λ c. search needs) returns-2)

@@ -5,27 +5,6 @@ use Rattle.read.proofs.Cases.{through-refused, through-judged}
 use Rattle.read.proofs.through.Statement.{statement}
 use Rattle.read.proofs.through.Tie as tie
 
-judge-requires : tie.Need-judge-requires
-judge-requires c κs = search needs
-
-enum-told : tie.Need-enum-told
-enum-told c = search needs
-
-sub-result : tie.Need-sub-result
-sub-result c = search needs
-
-part-result-start : tie.Need-part-result-start
-part-result-start c = search needs
-
-part-result-end : tie.Need-part-result-end
-part-result-end c = search needs
-
-enum-told-2 : tie.Need-enum-told-2
-enum-told-2 c = search needs
-
-through-guard-requires : tie.Need-through-guard-requires
-through-guard-requires c κs = search needs
-
 returns : tie.Need-returns
 returns c =
     let a = c .before .before .before .before .before .before .before .before .args in
@@ -40,12 +19,12 @@ pub through-spec : {M : Type 1} → statement M
 through-spec =
     tie.close
     (tie.spec
-    judge-requires
-    enum-told
-    sub-result
-    part-result-start
-    part-result-end
-    enum-told-2
-    through-guard-requires
+    (λ c κs. search needs)
+    (λ c. search needs)
+    (λ c. search needs)
+    (λ c. search needs)
+    (λ c. search needs)
+    (λ c. search needs)
+    (λ c κs. search needs)
     returns
     returns-2)

@@ -5,14 +5,8 @@ use Rattle.table.specs.Copy.{usedRule}
 use Rattle.read.proofs.view.Statement.{statement}
 use Rattle.read.proofs.view.Tie as tie
 
-through-requires : tie.Need-through-requires
-through-requires c κs = search needs
-
-used-requires : tie.Need-used-requires
-used-requires c κs = search needs
-
 returns : tie.Need-returns
 returns c = c .used .ensures ∙ ap usedRule (c .before .through .ensures)
 
 pub view-spec : {M : Type 1} → statement M
-view-spec = tie.close (tie.spec through-requires used-requires returns)
+view-spec = tie.close (tie.spec (λ c κs. search needs) (λ c κs. search needs) returns)

@@ -12,8 +12,5 @@ array-set-from-slots : tie.Need-array-set-from-slots
 unfolding slotCount
 array-set-from-slots c = search needs
 
-returns : tie.Need-returns
-returns c = search needs
-
 pub with-slot-spec : {M : Type 1} → statement M
-with-slot-spec = tie.close (tie.spec mul-slots array-set-from-slots returns)
+with-slot-spec = tie.close (tie.spec mul-slots array-set-from-slots (λ c. search needs))

@@ -6,26 +6,11 @@ use Rattle.table.proofs.Cases.{fits-fit, apply-unfit, apply-unlawful, a
 use Rattle.table.proofs.apply.Statement.{statement}
 use Rattle.table.proofs.apply.Tie as tie
 
-is-fit-requires : tie.Need-is-fit-requires
-is-fit-requires c κs = search needs
-
-fit-requires : tie.Need-fit-requires
-fit-requires c κs = search needs
-
-same-length : tie.Need-same-length
-same-length c = search needs
-
 returns : tie.Need-returns
 returns c =
     let a = c .before .before .before .before .before .before .args in
     rw (c .fit .ensures)
     (sym (apply-unfit (a .kind) (a .key) (a .amount) (a .w .now) (sym (c .before .before .before .is-fit .ensures) ∙ not-true _ (c .before .before .if1 .taken))))
-
-lawful-requires : tie.Need-lawful-requires
-lawful-requires c κs = search needs
-
-same-length-2 : tie.Need-same-length-2
-same-length-2 c = search needs
 
 returns-2 : tie.Need-returns-2
 returns-2 c =
@@ -34,9 +19,6 @@ returns-2 c =
 effect-requires : tie.Need-effect-requires
 effect-requires c κs =
     fits-fit (c .before .before .before .before .before .before .before .args .w .now) (sym (c .before .before .before .before .is-fit .ensures) ∙ not-false _ (c .before .before .before .if1 .left))
-
-same-length-3 : tie.Need-same-length-3
-same-length-3 c = search needs
 
 returns-3 : tie.Need-returns-3
 returns-3 c =
@@ -48,13 +30,13 @@ pub apply-spec : {M : Type 1} → statement M
 apply-spec =
     tie.close
     (tie.spec
-    is-fit-requires
-    fit-requires
-    same-length
+    (λ c κs. search needs)
+    (λ c κs. search needs)
+    (λ c. search needs)
     returns
-    lawful-requires
-    same-length-2
+    (λ c κs. search needs)
+    (λ c. search needs)
     returns-2
     effect-requires
-    same-length-3
+    (λ c. search needs)
     returns-3)

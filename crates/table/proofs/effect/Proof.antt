@@ -5,31 +5,13 @@ use Rattle.table.proofs.Cases.{applied-add, applied-drop, applied-clear
 use Rattle.table.proofs.effect.Statement.{statement}
 use Rattle.table.proofs.effect.Tie as tie
 
-add-in-requires : tie.Need-add-in-requires
-add-in-requires c κs = search needs
-
-same-length : tie.Need-same-length
-same-length c = search needs
-
 returns : tie.Need-returns
 returns c =
     c .before .before .add-in .ensures ∙ sym (applied-add _ _ _ _ (c .before .before .before .before .if1 .taken))
 
-drop-in-requires : tie.Need-drop-in-requires
-drop-in-requires c κs = search needs
-
-same-length-2 : tie.Need-same-length-2
-same-length-2 c = search needs
-
 returns-2 : tie.Need-returns-2
 returns-2 c =
     c .before .before .drop-in .ensures ∙ sym (applied-drop _ _ _ _ (c .before .before .before .before .before .if1 .left) (c .before .before .before .before .if2 .taken))
-
-zero-requires : tie.Need-zero-requires
-zero-requires c κs = search needs
-
-same-length-3 : tie.Need-same-length-3
-same-length-3 c = search needs
 
 returns-3 : tie.Need-returns-3
 returns-3 c =
@@ -42,13 +24,13 @@ pub effect-spec : {M : Type 1} → statement M
 effect-spec =
     tie.close
     (tie.spec
-    add-in-requires
-    same-length
+    (λ c κs. search needs)
+    (λ c. search needs)
     returns
-    drop-in-requires
-    same-length-2
+    (λ c κs. search needs)
+    (λ c. search needs)
     returns-2
-    zero-requires
-    same-length-3
+    (λ c κs. search needs)
+    (λ c. search needs)
     returns-3
     returns-4)

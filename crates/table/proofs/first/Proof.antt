@@ -20,39 +20,15 @@ Inv-loop w key exact n i₀ i =
 abbrev μ-loop : tie.MeasureT-loop
 μ-loop w key exact n i₀ i = n - i
 
-shared-slice-read-n : tie.Need-shared-slice-read-n Inv-loop μ-loop
-shared-slice-read-n c = search needs
-
 loop-holds : tie.Need-loop-holds Inv-loop μ-loop
 loop-holds c =
     (search needs, refl, ap (seek (test (c .before .before .args .exact) (c .before .before .args .key) (c .before .before .args .w .now)) 0) (search needs))
-
-mul-passes : tie.Need-mul-passes Inv-loop μ-loop
-mul-passes c = search needs
-
-add-passes : tie.Need-add-passes Inv-loop μ-loop
-add-passes c = search needs
-
-mul-passes-2 : tie.Need-mul-passes-2 Inv-loop μ-loop
-mul-passes-2 c = search needs
-
-shared-slice-read-passes : tie.Need-shared-slice-read-passes Inv-loop μ-loop
-shared-slice-read-passes c = search needs
-
-passes-requires : tie.Need-passes-requires Inv-loop μ-loop
-passes-requires c κs = search needs
 
 returns : tie.Need-returns Inv-loop μ-loop
 returns c =
     let at = c .before .before .before .before in
     let a = at .before .before .before .args in
     (sym (at .loop .inv .2 ∙ seek-here (test (a .exact) (a .key) (a .w .now)) (at .loop .i) (entries (a .w .now)) (search needs) (sym (c .before .passes .ensures) ∙ c .if1 .taken)), search needs)
-
-add-i : tie.Need-add-i Inv-loop μ-loop
-add-i c = search needs
-
-loop-less : tie.Need-loop-less Inv-loop μ-loop
-loop-less c = search needs
 
 loop-again : tie.Need-loop-again Inv-loop μ-loop
 loop-again c =
@@ -72,15 +48,15 @@ first-spec =
     (tie.spec
     Inv-loop
     μ-loop
-    shared-slice-read-n
+    (λ c. search needs)
     loop-holds
-    mul-passes
-    add-passes
-    mul-passes-2
-    shared-slice-read-passes
-    passes-requires
+    (λ c. search needs)
+    (λ c. search needs)
+    (λ c. search needs)
+    (λ c. search needs)
+    (λ c κs. search needs)
     returns
-    add-i
-    loop-less
+    (λ c. search needs)
+    (λ c. search needs)
     loop-again
     returns-2)

@@ -8,9 +8,6 @@ use Rattle.table.proofs.fit.Tie as tie
 returns : tie.Need-returns
 returns c = sym (fitness-length _ (c .if1 .taken))
 
-shared-slice-read-if2 : tie.Need-shared-slice-read-if2
-shared-slice-read-if2 c = search needs
-
 returns-2 : tie.Need-returns-2
 returns-2 c = sym (fitness-broken _ (c .before .before .if1 .left) (c .if2 .taken))
 
@@ -18,4 +15,4 @@ returns-3 : tie.Need-returns-3
 returns-3 c = sym (fitness-done _ (c .before .before .if1 .left) (c .if2 .left))
 
 pub fit-spec : {M : Type 1} → statement M
-fit-spec = tie.close (tie.spec returns shared-slice-read-if2 returns-2 returns-3)
+fit-spec = tie.close (tie.spec returns (λ c. search needs) returns-2 returns-3)

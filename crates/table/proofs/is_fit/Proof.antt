@@ -8,11 +8,8 @@ use Rattle.table.proofs.is_fit.Tie as tie
 returns : tie.Need-returns
 returns c = sym (fits-length (c .before .args .w .now) (c .if1 .taken))
 
-shared-slice-read-result : tie.Need-shared-slice-read-result
-shared-slice-read-result c = search needs
-
 returns-2 : tie.Need-returns-2
 returns-2 c = sym (fits-entries (c .before .before .args .w .now) (c .before .if1 .left))
 
 pub is-fit-spec : {M : Type 1} → statement M
-is-fit-spec = tie.close (tie.spec returns shared-slice-read-result returns-2)
+is-fit-spec = tie.close (tie.spec returns (λ c. search needs) returns-2)

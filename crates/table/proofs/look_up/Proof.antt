@@ -17,12 +17,6 @@ fits-here c = sym (c .before .is-fit .ensures) ∙ not-false _ (c .if1 .left)
 fit-here : (c : tie.Else1) → Fit (c .before .before .before .args .w .now)
 fit-here c = fits-fit _ (fits-here c)
 
-is-fit-requires : tie.Need-is-fit-requires
-is-fit-requires c κs = search needs
-
-slice-aggregate-result : tie.Need-slice-aggregate-result
-slice-aggregate-result c = search needs
-
 returns : tie.Need-returns
 returns c = sym (look-unfit _ _ (sym (c .before .before .is-fit .ensures) ∙ not-true _ (c .before .if1 .taken)))
 
@@ -44,12 +38,6 @@ add-end c = omega (arith, fit-here (c .before .before .before))
 mul-result : tie.Need-mul-result
 mul-result c = omega (arith, fit-here (c .before .before .before))
 
-sub-result : tie.Need-sub-result
-sub-result c = search needs
-
-part-result-start : tie.Need-part-result-start
-part-result-start c = search needs
-
 part-result-end : tie.Need-part-result-end
 part-result-end c = omega (arith, fit-here (c .before .before .before))
 
@@ -61,9 +49,6 @@ returns-2 c =
     rw (e, i .ensures .0)
     (sym (look-present (a .key) (a .w .now) (fits-here (c .before .before .before .before)) (rw (i .ensures .0) at (c .before .if2 .taken))))
 
-slice-aggregate-result-2 : tie.Need-slice-aggregate-result-2
-slice-aggregate-result-2 c = search needs
-
 returns-3 : tie.Need-returns-3
 returns-3 c =
     let a = c .before .before .before .before .before .before .before .args in
@@ -73,8 +58,8 @@ pub look-up-spec : {M : Type 1} → statement M
 look-up-spec =
     tie.close
     (tie.spec
-    is-fit-requires
-    slice-aggregate-result
+    (λ c κs. search needs)
+    (λ c. search needs)
     returns
     first-requires
     shared-slice-read-if2
@@ -82,9 +67,9 @@ look-up-spec =
     add-at
     add-end
     mul-result
-    sub-result
-    part-result-start
+    (λ c. search needs)
+    (λ c. search needs)
     part-result-end
     returns-2
-    slice-aggregate-result-2
+    (λ c. search needs)
     returns-3)

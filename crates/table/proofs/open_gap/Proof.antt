@@ -17,27 +17,6 @@ abbrev μ-loop : tie.MeasureT-loop
 loop-holds : tie.Need-loop-holds Inv-loop μ-loop
 loop-holds c = (search needs, search needs, up-none (c .args .m) (c .args .part .now))
 
-sub-j : tie.Need-sub-j Inv-loop μ-loop
-sub-j c = search needs
-
-mul-part : tie.Need-mul-part Inv-loop μ-loop
-mul-part c = search needs
-
-slice-read-part : tie.Need-slice-read-part Inv-loop μ-loop
-slice-read-part c = search needs
-
-add-part : tie.Need-add-part Inv-loop μ-loop
-add-part c = search needs
-
-mul-part-2 : tie.Need-mul-part-2 Inv-loop μ-loop
-mul-part-2 c = search needs
-
-slice-write-part : tie.Need-slice-write-part Inv-loop μ-loop
-slice-write-part c = search needs
-
-loop-less : tie.Need-loop-less Inv-loop μ-loop
-loop-less c = search needs
-
 loop-again : tie.Need-loop-again Inv-loop μ-loop
 loop-again c =
     let at = c .before .before in
@@ -48,9 +27,6 @@ loop-again c =
       simp length-set (search needs),
       rw (at .loop .inv .2, getD-up j (j - 1) m p (search needs) (search needs)) (up-next j m p (search needs) (search needs) (search needs)),
     )
-
-slice-write-part-2 : tie.Need-slice-write-part-2 Inv-loop μ-loop
-slice-write-part-2 c = search needs
 
 slice-write-part-3 : tie.Need-slice-write-part-3 Inv-loop μ-loop
 slice-write-part-3 c = simp length-set (omega arith)
@@ -71,15 +47,15 @@ open-gap-spec =
     Inv-loop
     μ-loop
     loop-holds
-    sub-j
-    mul-part
-    slice-read-part
-    add-part
-    mul-part-2
-    slice-write-part
-    loop-less
+    (λ c. search needs)
+    (λ c. search needs)
+    (λ c. search needs)
+    (λ c. search needs)
+    (λ c. search needs)
+    (λ c. search needs)
+    (λ c. search needs)
     loop-again
-    slice-write-part-2
+    (λ c. search needs)
     slice-write-part-3
     same-length
     returns)

@@ -17,12 +17,6 @@ fits-here c = sym (c .before .is-fit .ensures) ∙ not-false _ (c .if1 .left)
 fit-here : (c : tie.Else1) → Fit (c .before .before .before .args .w .now)
 fit-here c = fits-fit _ (fits-here c)
 
-is-fit-requires : tie.Need-is-fit-requires
-is-fit-requires c κs = search needs
-
-slice-aggregate-result : tie.Need-slice-aggregate-result
-slice-aggregate-result c = search needs
-
 returns : tie.Need-returns
 returns c = sym (used-unfit _ (sym (c .before .before .is-fit .ensures) ∙ not-true _ (c .before .if1 .taken)))
 
@@ -45,8 +39,8 @@ pub used-spec : {M : Type 1} → statement M
 used-spec =
     tie.close
     (tie.spec
-    is-fit-requires
-    slice-aggregate-result
+    (λ c κs. search needs)
+    (λ c. search needs)
     returns
     shared-slice-read-end
     mul-end

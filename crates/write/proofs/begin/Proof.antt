@@ -5,30 +5,6 @@ use Rattle.write.proofs.Callings.{call-refused, call-admitted, open-lif
 use Rattle.write.proofs.begin.Statement.{statement}
 use Rattle.write.proofs.begin.Tie as tie
 
-judge-requires : tie.Need-judge-requires
-judge-requires c κs = search needs
-
-enum-told : tie.Need-enum-told
-enum-told c = search needs
-
-slot-at-requires : tie.Need-slot-at-requires
-slot-at-requires c κs = search needs
-
-array-read-open-on : tie.Need-array-read-open-on
-array-read-open-on c = search needs
-
-open-on-requires : tie.Need-open-on-requires
-open-on-requires c κs = search needs
-
-put-back-requires : tie.Need-put-back-requires
-put-back-requires c κs = search needs
-
-enum-known-v : tie.Need-enum-known-v
-enum-known-v c = search needs
-
-refusal-requires : tie.Need-refusal-requires
-refusal-requires c κs = search needs
-
 returns : tie.Need-returns
 returns c =
     let a = c .before .before .before .before .before .before .before .before .before .before .before .args in
@@ -44,13 +20,13 @@ pub begin-spec : {M : Type 1} → statement M
 begin-spec =
     tie.close
     (tie.spec
-    judge-requires
-    enum-told
-    slot-at-requires
-    array-read-open-on
-    open-on-requires
-    put-back-requires
-    enum-known-v
-    refusal-requires
+    (λ c κs. search needs)
+    (λ c. search needs)
+    (λ c κs. search needs)
+    (λ c. search needs)
+    (λ c κs. search needs)
+    (λ c κs. search needs)
+    (λ c. search needs)
+    (λ c κs. search needs)
     returns
     returns-2)

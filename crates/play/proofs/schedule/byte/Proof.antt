@@ -6,9 +6,6 @@ use Rattle.play.proofs.Numbers.{number-one}
 use Rattle.play.proofs.schedule.byte.Statement.{statement}
 use Rattle.play.proofs.schedule.byte.Tie as tie
 
-shared-slice-read-result : tie.Need-shared-slice-read-result
-shared-slice-read-result c = search needs
-
 cast-result : tie.Need-cast-result
 cast-result c = omega (arith, c .shared-slice-known .given (c .before .args .at))
 
@@ -18,4 +15,4 @@ returns c =
     (sym (number-one (a .s .now) (a .at)), omega (arith, c .shared-slice-known .given (a .at)))
 
 pub byte-spec : {M : Type 1} → statement M
-byte-spec = tie.close (tie.spec shared-slice-read-result cast-result returns)
+byte-spec = tie.close (tie.spec (λ c. search needs) cast-result returns)

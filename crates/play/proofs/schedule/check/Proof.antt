@@ -14,9 +14,6 @@ use Rattle.play.proofs.schedule.check.Tie as tie
 is-marked : (c : tie.Else1) → marked (c .before .before .before .args .s .now) ≡ true
 is-marked c = sym (c .before .marked .ensures) ∙ not-false _ (c .if1 .left)
 
-marked-requires : tie.Need-marked-requires
-marked-requires c κs = search needs
-
 returns : tie.Need-returns
 returns c = sym (flaw-unmarked _ (sym (c .before .marked .ensures) ∙ not-true _ (c .if1 .taken)))
 
@@ -25,9 +22,6 @@ two-requires c κs = omega (arith, marked-long (c .before .before .before .args 
 
 returns-2 : tie.Need-returns-2
 returns-2 c = sym (flaw-version _ (is-marked (c .before .before)) (λ v. c .if2 .taken (c .before .two .ensures .0 ∙ v)))
-
-count-requires : tie.Need-count-requires
-count-requires c κs = search needs
 
 sub-if3 : tie.Need-sub-if3
 sub-if3 c =
@@ -70,11 +64,11 @@ pub check-spec : {M : Type 1} → statement M
 check-spec =
     tie.close
     (tie.spec
-    marked-requires
+    (λ c κs. search needs)
     returns
     two-requires
     returns-2
-    count-requires
+    (λ c κs. search needs)
     sub-if3
     returns-3
     first-unknown-requires

@@ -5,15 +5,9 @@ use borrow.Author.Needs.{needs}
 use Rattle.play.proofs.schedule.decode.Statement.{statement}
 use Rattle.play.proofs.schedule.decode.Tie as tie
 
-fields-at-requires : tie.Need-fields-at-requires
-fields-at-requires c κs = search needs
-
-call-of-requires : tie.Need-call-of-requires
-call-of-requires c κs = search needs
-
 returns : tie.Need-returns
 unfolding decoded
 returns c = c .call-of .ensures ∙ ap callOf (c .before .fields-at .ensures)
 
 pub decode-spec : {M : Type 1} → statement M
-decode-spec = tie.close (tie.spec fields-at-requires call-of-requires returns)
+decode-spec = tie.close (tie.spec (λ c κs. search needs) (λ c κs. search needs) returns)

@@ -7,39 +7,6 @@ use Rattle.play.proofs.Numbers.{number-one}
 use Rattle.play.proofs.schedule.fields_at.Statement.{statement}
 use Rattle.play.proofs.schedule.fields_at.Tie as tie
 
-byte-requires : tie.Need-byte-requires
-byte-requires c κs = search needs
-
-add-byte : tie.Need-add-byte
-add-byte c = search needs
-
-byte-requires-2 : tie.Need-byte-requires-2
-byte-requires-2 c κs = search needs
-
-add-byte-2 : tie.Need-add-byte-2
-add-byte-2 c = search needs
-
-byte-requires-3 : tie.Need-byte-requires-3
-byte-requires-3 c κs = search needs
-
-add-byte-3 : tie.Need-add-byte-3
-add-byte-3 c = search needs
-
-byte-requires-4 : tie.Need-byte-requires-4
-byte-requires-4 c κs = search needs
-
-add-eight : tie.Need-add-eight
-add-eight c = search needs
-
-eight-requires : tie.Need-eight-requires
-eight-requires c κs = search needs
-
-add-eight-2 : tie.Need-add-eight-2
-add-eight-2 c = search needs
-
-eight-requires-2 : tie.Need-eight-requires-2
-eight-requires-2 c κs = search needs
-
 returns : tie.Need-returns
 returns c =
     let b = c .before .before .before .before .before in
@@ -63,15 +30,15 @@ pub fields-at-spec : {M : Type 1} → statement M
 fields-at-spec =
     tie.close
     (tie.spec
-    byte-requires
-    add-byte
-    byte-requires-2
-    add-byte-2
-    byte-requires-3
-    add-byte-3
-    byte-requires-4
-    add-eight
-    eight-requires
-    add-eight-2
-    eight-requires-2
+    (λ c κs. search needs)
+    (λ c. search needs)
+    (λ c κs. search needs)
+    (λ c. search needs)
+    (λ c κs. search needs)
+    (λ c. search needs)
+    (λ c κs. search needs)
+    (λ c. search needs)
+    (λ c κs. search needs)
+    (λ c. search needs)
+    (λ c κs. search needs)
     returns)

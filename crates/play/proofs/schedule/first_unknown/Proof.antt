@@ -19,15 +19,6 @@ abbrev μ-loop : tie.MeasureT-loop
 loop-holds : tie.Need-loop-holds Inv-loop μ-loop
 loop-holds c = (search needs, c .pre, ap (seek (unknownAt (c .args .s .now)) 0) (search needs))
 
-mul-call : tie.Need-mul-call Inv-loop μ-loop
-mul-call c = search needs
-
-add-call : tie.Need-add-call Inv-loop μ-loop
-add-call c = search needs
-
-shared-slice-read-call : tie.Need-shared-slice-read-call Inv-loop μ-loop
-shared-slice-read-call c = search needs
-
 returns : tie.Need-returns Inv-loop μ-loop
 returns c =
     let at = c .before .before .before in
@@ -39,12 +30,6 @@ returns-2 c =
     let at = c .before .before .before .before in
     let a = at .before .args in
     sym (at .loop .inv .2 ∙ seek-here (unknownAt (a .s .now)) (at .loop .i) (a .n) (search needs) (unknown-high (a .s .now) (at .loop .i) (c .if2 .taken)))
-
-add-i : tie.Need-add-i Inv-loop μ-loop
-add-i c = search needs
-
-loop-less : tie.Need-loop-less Inv-loop μ-loop
-loop-less c = search needs
 
 loop-again : tie.Need-loop-again Inv-loop μ-loop
 loop-again c =
@@ -65,12 +50,12 @@ first-unknown-spec =
     Inv-loop
     μ-loop
     loop-holds
-    mul-call
-    add-call
-    shared-slice-read-call
+    (λ c. search needs)
+    (λ c. search needs)
+    (λ c. search needs)
     returns
     returns-2
-    add-i
-    loop-less
+    (λ c. search needs)
+    (λ c. search needs)
     loop-again
     returns-3)

@@ -8,22 +8,13 @@ use Rattle.play.proofs.schedule.marked.Tie as tie
 returns : tie.Need-returns
 returns c = sym (unmarked-short (c .before .args .s .now) (c .if1 .taken))
 
-shared-slice-read-if2 : tie.Need-shared-slice-read-if2
-shared-slice-read-if2 c = search needs
-
 returns-2 : tie.Need-returns-2
 returns-2 c = sym (unmarked-first (c .before .before .before .args .s .now) (c .before .before .if1 .left) (c .if2 .taken))
-
-shared-slice-read-if3 : tie.Need-shared-slice-read-if3
-shared-slice-read-if3 c = search needs
 
 returns-3 : tie.Need-returns-3
 returns-3 c =
     let e = c .before .before .before .before in
     sym (unmarked-second (e .before .args .s .now) (e .if1 .left) (c .before .before .if2 .left) (c .if3 .taken))
-
-shared-slice-read-result : tie.Need-shared-slice-read-result
-shared-slice-read-result c = search needs
 
 returns-4 : tie.Need-returns-4
 returns-4 c =
@@ -33,4 +24,4 @@ returns-4 c =
 pub marked-spec : {M : Type 1} → statement M
 marked-spec =
     tie.close
-    (tie.spec returns shared-slice-read-if2 returns-2 shared-slice-read-if3 returns-3 shared-slice-read-result returns-4)
+    (tie.spec returns (λ c. search needs) returns-2 (λ c. search needs) returns-3 (λ c. search needs) returns-4)

@@ -9,12 +9,6 @@ use Rattle.play.proofs.Numbers.{put-entry}
 use Rattle.play.proofs.transcript.put.Statement.{statement}
 use Rattle.play.proofs.transcript.put.Tie as tie
 
-slice-write-out : tie.Need-slice-write-out
-slice-write-out c = search needs
-
-add-eight : tie.Need-add-eight
-add-eight c = search needs
-
 eight-requires : tie.Need-eight-requires
 eight-requires c κs = simp length-set (omega arith)
 
@@ -29,4 +23,4 @@ returns c =
     c .before .before .eight .ensures ∙ rw add-one (put-entry (a .answer) (a .value) (a .at) (a .out .now) (c .before .before .before .before .before .pre))
 
 pub put-spec : {M : Type 1} → statement M
-put-spec = tie.close (tie.spec slice-write-out add-eight eight-requires same-length returns)
+put-spec = tie.close (tie.spec (λ c. search needs) (λ c. search needs) eight-requires same-length returns)

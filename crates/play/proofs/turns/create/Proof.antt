@@ -9,17 +9,8 @@ use borrow.Author.Needs.{needs}
 use Rattle.play.proofs.turns.create.Statement.{statement}
 use Rattle.play.proofs.turns.create.Tie as tie
 
-waits-requires : tie.Need-waits-requires
-waits-requires c κs = search needs
-
-moved-as-requires : tie.Need-moved-as-requires
-moved-as-requires c κs = search needs
-
 returns : tie.Need-returns
 returns c = c .moved-as .ensures ∙ sym (rw (sym (c .before .before .waits .ensures) ∙ c .before .if1 .taken, created))
-
-moved-as-requires-2 : tie.Need-moved-as-requires-2
-moved-as-requires-2 c κs = search needs
 
 returns-2 : tie.Need-returns-2
 returns-2 c =
@@ -27,12 +18,6 @@ returns-2 c =
     let i = e .before .before .args .i in
     c .moved-as2 .ensures
     ∙ sym (rw (sym (e .before .waits .ensures) ∙ e .if1 .left, le-leb slotTotal i (c .before .if2 .taken), created))
-
-new-slot-requires : tie.Need-new-slot-requires
-new-slot-requires c κs = search needs
-
-moved-as-requires-3 : tie.Need-moved-as-requires-3
-moved-as-requires-3 c κs = search needs
 
 returns-3 : tie.Need-returns-3
 returns-3 c =
@@ -45,11 +30,11 @@ pub create-spec : {M : Type 1} → statement M
 create-spec =
     tie.close
     (tie.spec
-    waits-requires
-    moved-as-requires
+    (λ c κs. search needs)
+    (λ c κs. search needs)
     returns
-    moved-as-requires-2
+    (λ c κs. search needs)
     returns-2
-    new-slot-requires
-    moved-as-requires-3
+    (λ c κs. search needs)
+    (λ c κs. search needs)
     returns-3)

@@ -6,18 +6,6 @@ use borrow.Author.Needs.{needs}
 use Rattle.play.proofs.turns.facing.Statement.{statement}
 use Rattle.play.proofs.turns.facing.Tie as tie
 
-holds-requires : tie.Need-holds-requires
-holds-requires c κs = search needs
-
-halt-requires : tie.Need-halt-requires
-halt-requires c κs = search needs
-
-number-requires : tie.Need-number-requires
-number-requires c κs = search needs
-
-far-of-requires : tie.Need-far-of-requires
-far-of-requires c κs = search needs
-
 returns : tie.Need-returns
 returns c =
     let a = c .before .before .before .before .args in
@@ -27,4 +15,4 @@ returns c =
 
 pub facing-spec : {M : Type 1} → statement M
 facing-spec =
-    tie.close (tie.spec holds-requires halt-requires number-requires far-of-requires returns)
+    tie.close (tie.spec (λ c κs. search needs) (λ c κs. search needs) (λ c κs. search needs) (λ c κs. search needs) returns)

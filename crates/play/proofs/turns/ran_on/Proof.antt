@@ -7,22 +7,10 @@ use borrow.Author.Needs.{needs}
 use Rattle.play.proofs.turns.ran_on.Statement.{statement}
 use Rattle.play.proofs.turns.ran_on.Tie as tie
 
-number-requires : tie.Need-number-requires
-number-requires c κs = search needs
-
-far-of-requires : tie.Need-far-of-requires
-far-of-requires c κs = search needs
-
 returns : tie.Need-returns
 returns c =
     let m = c .before .before .before .args .m in
     c .far-of .ensures ∙ sym (rw (ne-eqb (number (m .answer)) 0 (λ z. c .before .if1 .taken (c .before .before .number .ensures ∙ z)), ranOn))
-
-add-far-of : tie.Need-add-far-of
-add-far-of c = search needs
-
-far-of-requires-2 : tie.Need-far-of-requires-2
-far-of-requires-2 c κs = search needs
 
 returns-2 : tie.Need-returns-2
 returns-2 c =
@@ -30,12 +18,6 @@ returns-2 c =
     let m = e .before .before .args .m in
     c .far-of2 .ensures
     ∙ sym (rw (eq-eqb (number (m .answer)) 0 (sym (e .before .number .ensures) ∙ e .if1 .left), ne-eqb (m .value) 0 (c .before .if2 .taken), ranOn))
-
-add-facing : tie.Need-add-facing
-add-facing c = search needs
-
-facing-requires : tie.Need-facing-requires
-facing-requires c κs = search needs
 
 returns-3 : tie.Need-returns-3
 returns-3 c =
@@ -48,12 +30,12 @@ pub ran-on-spec : {M : Type 1} → statement M
 ran-on-spec =
     tie.close
     (tie.spec
-    number-requires
-    far-of-requires
+    (λ c κs. search needs)
+    (λ c κs. search needs)
     returns
-    add-far-of
-    far-of-requires-2
+    (λ c. search needs)
+    (λ c κs. search needs)
     returns-2
-    add-facing
-    facing-requires
+    (λ c. search needs)
+    (λ c κs. search needs)
     returns-3)

@@ -8,19 +8,10 @@ use borrow.Author.Needs.{needs}
 use Rattle.play.proofs.turns.touch.Statement.{statement}
 use Rattle.play.proofs.turns.touch.Tie as tie
 
-moved-as-requires : tie.Need-moved-as-requires
-moved-as-requires c κs = search needs
-
 returns : tie.Need-returns
 returns c =
     let a = c .before .before .before .before .args in
     c .moved-as .ensures ∙ sym (rw (le-leb slotTotal (a .i) (c .before .if1 .taken), touched))
-
-handle-requires : tie.Need-handle-requires
-handle-requires c κs = search needs
-
-moved-as-requires-2 : tie.Need-moved-as-requires-2
-moved-as-requires-2 c κs = search needs
 
 returns-2 : tie.Need-returns-2
 returns-2 c =
@@ -31,4 +22,4 @@ returns-2 c =
 
 pub touch-spec : {M : Type 1} → statement M
 touch-spec =
-    tie.close (tie.spec moved-as-requires returns handle-requires moved-as-requires-2 returns-2)
+    tie.close (tie.spec (λ c κs. search needs) returns (λ c κs. search needs) (λ c κs. search needs) returns-2)

@@ -8,42 +8,6 @@ use borrow.Author.Needs.{needs}
 use Rattle.play.proofs.turns.turn.Statement.{statement}
 use Rattle.play.proofs.turns.turn.Tie as tie
 
-enum-told : tie.Need-enum-told
-enum-told c = search needs
-
-create-requires : tie.Need-create-requires
-create-requires c κs = search needs
-
-enum-known-call : tie.Need-enum-known-call
-enum-known-call c = search needs
-
-touch-requires : tie.Need-touch-requires
-touch-requires c κs = search needs
-
-enum-known-call-2 : tie.Need-enum-known-call-2
-enum-known-call-2 c = search needs
-
-append-on-requires : tie.Need-append-on-requires
-append-on-requires c κs = search needs
-
-enum-known-call-3 : tie.Need-enum-known-call-3
-enum-known-call-3 c = search needs
-
-open-on-requires : tie.Need-open-on-requires
-open-on-requires c κs = search needs
-
-enum-told-2 : tie.Need-enum-told-2
-enum-told-2 c = search needs
-
-moved-as-requires : tie.Need-moved-as-requires
-moved-as-requires c κs = search needs
-
-enum-told-3 : tie.Need-enum-told-3
-enum-told-3 c = search needs
-
-moved-as-requires-2 : tie.Need-moved-as-requires-2
-moved-as-requires-2 c κs = search needs
-
 returns : tie.Need-returns
 unfolding turnOn
 returns c =
@@ -51,27 +15,12 @@ returns c =
     ap (λ (x : Moved). lent x (a .left .now) (a .right .now) (a .log .now)) (c .create .ensures)
     ∙ sym (ap (λ (k : Call). turnOn k (a .i) (a .c) (a .s) (a .left .now) (a .right .now) (a .log .now)) (c .before .enum-told .given .1))
 
-same-length : tie.Need-same-length
-same-length c = search needs
-
-same-length-2 : tie.Need-same-length-2
-same-length-2 c = search needs
-
 returns-2 : tie.Need-returns-2
 unfolding turnOn
 returns-2 c =
     let a = c .before .before .before .before .before .before .before .before .before .args in
     ap (λ (x : Moved). lent x (a .left .now) (a .right .now) (a .log .now)) (c .touch .ensures)
     ∙ sym (ap (λ (k : Call). turnOn k (a .i) (a .c) (a .s) (a .left .now) (a .right .now) (a .log .now)) (c .before .before .before .before .call .given .1))
-
-same-length-3 : tie.Need-same-length-3
-same-length-3 c = search needs
-
-same-length-4 : tie.Need-same-length-4
-same-length-4 c = search needs
-
-same-length-5 : tie.Need-same-length-5
-same-length-5 c = search needs
 
 returns-3 : tie.Need-returns-3
 unfolding turnOn
@@ -105,25 +54,25 @@ pub turn-spec : {M : Type 1} → statement M
 turn-spec =
     tie.close
     (tie.spec
-    enum-told
-    create-requires
-    enum-known-call
-    touch-requires
-    enum-known-call-2
-    append-on-requires
-    enum-known-call-3
-    open-on-requires
-    enum-told-2
-    moved-as-requires
-    enum-told-3
-    moved-as-requires-2
+    (λ c. search needs)
+    (λ c κs. search needs)
+    (λ c. search needs)
+    (λ c κs. search needs)
+    (λ c. search needs)
+    (λ c κs. search needs)
+    (λ c. search needs)
+    (λ c κs. search needs)
+    (λ c. search needs)
+    (λ c κs. search needs)
+    (λ c. search needs)
+    (λ c κs. search needs)
     returns
-    same-length
-    same-length-2
+    (λ c. search needs)
+    (λ c. search needs)
     returns-2
-    same-length-3
-    same-length-4
-    same-length-5
+    (λ c. search needs)
+    (λ c. search needs)
+    (λ c. search needs)
     returns-3
     returns-4
     returns-5

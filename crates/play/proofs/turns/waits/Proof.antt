@@ -4,14 +4,8 @@ use borrow.Author.Needs.{needs}
 use Rattle.play.proofs.turns.waits.Statement.{statement}
 use Rattle.play.proofs.turns.waits.Tie as tie
 
-entry-requires : tie.Need-entry-requires
-entry-requires c κs = search needs
-
-number-requires : tie.Need-number-requires
-number-requires c κs = search needs
-
 returns : tie.Need-returns
 returns c = λ j. eqb (c .before .entry .ensures j) (c .number .ensures j)
 
 pub waits-spec : {M : Type 1} → statement M
-waits-spec = tie.close (tie.spec entry-requires number-requires returns)
+waits-spec = tie.close (tie.spec (λ c κs. search needs) (λ c κs. search needs) returns)

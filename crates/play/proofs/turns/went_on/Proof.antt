@@ -5,20 +5,11 @@ use borrow.Author.Needs.{needs}
 use Rattle.play.proofs.turns.went_on.Statement.{statement}
 use Rattle.play.proofs.turns.went_on.Tie as tie
 
-is-run-requires : tie.Need-is-run-requires
-is-run-requires c κs = search needs
-
-ran-on-requires : tie.Need-ran-on-requires
-ran-on-requires c κs = search needs
-
 returns : tie.Need-returns
 returns c = c .ran-on .ensures ∙ sym (rw (sym (c .before .before .is-run .ensures) ∙ c .before .if1 .taken, wentOn))
-
-over-requires : tie.Need-over-requires
-over-requires c κs = search needs
 
 returns-2 : tie.Need-returns-2
 returns-2 c = c .over .ensures ∙ sym (rw (sym (c .before .before .is-run .ensures) ∙ c .before .if1 .left, wentOn))
 
 pub went-on-spec : {M : Type 1} → statement M
-went-on-spec = tie.close (tie.spec is-run-requires ran-on-requires returns over-requires returns-2)
+went-on-spec = tie.close (tie.spec (λ c κs. search needs) (λ c κs. search needs) returns (λ c κs. search needs) returns-2)

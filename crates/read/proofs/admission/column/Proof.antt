@@ -5,12 +5,6 @@ use Rattle.read.specs.Admission.{columnBy}
 use Rattle.read.proofs.admission.column.Statement.{statement}
 use Rattle.read.proofs.admission.column.Tie as tie
 
-add-result : tie.Need-add-result
-add-result c = search needs
-
-sub-result : tie.Need-sub-result
-sub-result c = search needs
-
 returns : tie.Need-returns
 returns c = sym (ap (columnBy (c .before .args .n)) (c .if1 .taken))
 
@@ -18,4 +12,4 @@ returns-2 : tie.Need-returns-2
 returns-2 c = sym (ap (columnBy (c .before .args .n)) (c .if1 .left))
 
 pub column-spec : {M : Type 1} → statement M
-column-spec = tie.close (tie.spec add-result sub-result returns returns-2)
+column-spec = tie.close (tie.spec (λ c. search needs) (λ c. search needs) returns returns-2)

@@ -75,17 +75,11 @@ entry-past : (p : Phase) (j : ℕ) → 20 ≤ j → entry p 19 ≡ entry p j
 unfolding entry
 entry-past p j h = sym (List·getD-eq-default (admissions p) (notNow (underway p)) h)
 
-row-requires : tie.Need-row-requires
-row-requires c κs = search needs
-
 mul-result : tie.Need-mul-result
 mul-result c = omega (arith, in-table (c .before .before .args .p))
 
 index-1-result : tie.Need-index-1-result
 index-1-result c = omega (arith, in-table (c .before .before .args .p))
-
-index-2-result : tie.Need-index-2-result
-index-2-result c = search needs
 
 returns : tie.Need-returns
 unfolding admits
@@ -97,9 +91,6 @@ mul-result-2 c = omega (arith, in-table (c .before .before .args .p))
 index-1-result-2 : tie.Need-index-1-result-2
 index-1-result-2 c = omega (arith, in-table (c .before .before .args .p))
 
-index-2-result-2 : tie.Need-index-2-result-2
-index-2-result-2 c = search needs
-
 returns-2 : tie.Need-returns-2
 unfolding admits
 returns-2 c = ap (λ i. getD (getD admits i []) 19 0) (c .before .before .row .ensures) ∙ entry-at (c .before .before .before .args .p) 19 (lit< tt) ∙ entry-past (c .before .before .before .args .p) (c .before .before .before .args .column) (c .before .if1 .left)
@@ -108,12 +99,12 @@ pub entry-spec : {M : Type 1} → statement M
 entry-spec =
     tie.close
     (tie.spec
-    row-requires
+    (λ c κs. search needs)
     mul-result
     index-1-result
-    index-2-result
+    (λ c. search needs)
     returns
     mul-result-2
     index-1-result-2
-    index-2-result-2
+    (λ c. search needs)
     returns-2)

@@ -5,11 +5,8 @@ use lib.Dec.{leb}
 use Rattle.read.proofs.guards.all_open.Statement.{statement}
 use Rattle.read.proofs.guards.all_open.Tie as tie
 
-first-guard-requires : tie.Need-first-guard-requires
-first-guard-requires c κs = search needs
-
 returns : tie.Need-returns
 returns c = ap (leb 4) (c .first-guard .ensures)
 
 pub all-open-spec : {M : Type 1} → statement M
-all-open-spec = tie.close (tie.spec first-guard-requires returns)
+all-open-spec = tie.close (tie.spec (λ c κs. search needs) returns)

@@ -5,19 +5,10 @@ use Rattle.read.proofs.Cases.{loaded-null, loaded-side}
 use Rattle.read.proofs.guards.loaded.Statement.{statement}
 use Rattle.read.proofs.guards.loaded.Tie as tie
 
-with-due-requires : tie.Need-with-due-requires
-with-due-requires c κs = search needs
-
 returns : tie.Need-returns
 returns c =
     let a = c .before .before .args in
     rw (c .with-due .ensures) (sym (loaded-null (a .c) (a .d) (a .s) (c .before .if1 .taken)))
-
-first-guard-requires : tie.Need-first-guard-requires
-first-guard-requires c κs = search needs
-
-guarded-requires : tie.Need-guarded-requires
-guarded-requires c κs = search needs
 
 returns-2 : tie.Need-returns-2
 returns-2 c =
@@ -26,4 +17,4 @@ returns-2 c =
 
 pub loaded-spec : {M : Type 1} → statement M
 loaded-spec =
-    tie.close (tie.spec with-due-requires returns first-guard-requires guarded-requires returns-2)
+    tie.close (tie.spec (λ c κs. search needs) returns (λ c κs. search needs) (λ c κs. search needs) returns-2)

@@ -6,11 +6,8 @@ use Rattle.read.specs.Machine.{withUse}
 use Rattle.read.proofs.guards.new_slot.Statement.{statement}
 use Rattle.read.proofs.guards.new_slot.Tie as tie
 
-no-slot-requires : tie.Need-no-slot-requires
-no-slot-requires c κs = search needs
-
 returns : tie.Need-returns
 returns c = ap (withUse true) (c .no-slot .ensures)
 
 pub new-slot-spec : {M : Type 1} → statement M
-new-slot-spec = tie.close (tie.spec no-slot-requires returns)
+new-slot-spec = tie.close (tie.spec (λ c κs. search needs) returns)

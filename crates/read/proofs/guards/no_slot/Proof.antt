@@ -3,11 +3,8 @@ use borrow.Author.Needs.{needs}
 use Rattle.read.proofs.guards.no_slot.Statement.{statement}
 use Rattle.read.proofs.guards.no_slot.Tie as tie
 
-no-guards-requires : tie.Need-no-guards-requires
-no-guards-requires c κs = search needs
-
 returns : tie.Need-returns
 returns c = cc
 
 pub no-slot-spec : {M : Type 1} → statement M
-no-slot-spec = tie.close (tie.spec no-guards-requires returns)
+no-slot-spec = tie.close (tie.spec (λ c κs. search needs) returns)

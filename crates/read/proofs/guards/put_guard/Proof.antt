@@ -5,12 +5,6 @@ use Rattle.read.proofs.Cases.{put-in, put-out}
 use Rattle.read.proofs.guards.put_guard.Statement.{statement}
 use Rattle.read.proofs.guards.put_guard.Tie as tie
 
-mul-after : tie.Need-mul-after
-mul-after c = search needs
-
-array-set-from-after : tie.Need-array-set-from-after
-array-set-from-after c = search needs
-
 returns : tie.Need-returns
 returns c = sym (put-in (c .before .args .j) (c .before .args .x) (c .before .args .g) (c .if1 .taken))
 
@@ -18,4 +12,4 @@ returns-2 : tie.Need-returns-2
 returns-2 c = sym (put-out (c .before .args .j) (c .before .args .x) (c .before .args .g) (c .if1 .left))
 
 pub put-guard-spec : {M : Type 1} → statement M
-put-guard-spec = tie.close (tie.spec mul-after array-set-from-after returns returns-2)
+put-guard-spec = tie.close (tie.spec (λ c. search needs) (λ c. search needs) returns returns-2)

@@ -4,29 +4,11 @@ use Rattle.read.proofs.Cases.{released-one, released-last}
 use Rattle.read.proofs.guards.released.Statement.{statement}
 use Rattle.read.proofs.guards.released.Tie as tie
 
-shut-requires : tie.Need-shut-requires
-shut-requires c κs = search needs
-
-put-guard-requires : tie.Need-put-guard-requires
-put-guard-requires c κs = search needs
-
-any-open-requires : tie.Need-any-open-requires
-any-open-requires c κs = search needs
-
-with-reading-requires : tie.Need-with-reading-requires
-with-reading-requires c κs = search needs
-
 returns : tie.Need-returns
 returns c =
     let a = c .before .before .before .before .before .before .args in
     released-one (a .j) (a .s) (c .before .before .before .before .shut .ensures) (c .before .before .before .put-guard .ensures)
     (c .before .before .any-open .ensures) (c .before .if1 .taken) (c .with-reading .ensures)
-
-wrapping-add-u64-requires : tie.Need-wrapping-add-u64-requires
-wrapping-add-u64-requires c κs = search needs
-
-with-reading-requires-2 : tie.Need-with-reading-requires-2
-with-reading-requires-2 c κs = search needs
 
 returns-2 : tie.Need-returns-2
 returns-2 c =
@@ -37,4 +19,4 @@ returns-2 c =
 pub released-spec : {M : Type 1} → statement M
 released-spec =
     tie.close
-    (tie.spec shut-requires put-guard-requires any-open-requires with-reading-requires returns wrapping-add-u64-requires with-reading-requires-2 returns-2)
+    (tie.spec (λ c κs. search needs) (λ c κs. search needs) (λ c κs. search needs) (λ c κs. search needs) returns (λ c κs. search needs) (λ c κs. search needs) returns-2)

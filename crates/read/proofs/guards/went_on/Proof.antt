@@ -5,24 +5,6 @@ use Rattle.read.specs.Handles.{wentOn}
 use Rattle.read.proofs.guards.went_on.Statement.{statement}
 use Rattle.read.proofs.guards.went_on.Tie as tie
 
-enum-told : tie.Need-enum-told
-enum-told c = search needs
-
-enum-told-2 : tie.Need-enum-told-2
-enum-told-2 c = search needs
-
-loaded-requires : tie.Need-loaded-requires
-loaded-requires c κs = search needs
-
-enum-told-3 : tie.Need-enum-told-3
-enum-told-3 c = search needs
-
-wrapping-add-u64-requires : tie.Need-wrapping-add-u64-requires
-wrapping-add-u64-requires c κs = search needs
-
-with-due-requires : tie.Need-with-due-requires
-with-due-requires c κs = search needs
-
 returns : tie.Need-returns
 returns c =
     let a = c .before .before .args in
@@ -42,12 +24,12 @@ pub went-on-spec : {M : Type 1} → statement M
 went-on-spec =
     tie.close
     (tie.spec
-    enum-told
-    enum-told-2
-    loaded-requires
-    enum-told-3
-    wrapping-add-u64-requires
-    with-due-requires
+    (λ c. search needs)
+    (λ c. search needs)
+    (λ c κs. search needs)
+    (λ c. search needs)
+    (λ c κs. search needs)
+    (λ c κs. search needs)
     returns
     returns-2
     returns-3)

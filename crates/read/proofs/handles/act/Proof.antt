@@ -5,45 +5,6 @@ use Rattle.read.specs.Handles.{handled}
 use Rattle.read.proofs.handles.act.Statement.{statement}
 use Rattle.read.proofs.handles.act.Tie as tie
 
-enum-told : tie.Need-enum-told
-enum-told c = search needs
-
-freed-requires : tie.Need-freed-requires
-freed-requires c κs = search needs
-
-enum-told-2 : tie.Need-enum-told-2
-enum-told-2 c = search needs
-
-entered-requires : tie.Need-entered-requires
-entered-requires c κs = search needs
-
-enum-told-3 : tie.Need-enum-told-3
-enum-told-3 c = search needs
-
-went-on-requires : tie.Need-went-on-requires
-went-on-requires c κs = search needs
-
-enum-known-h : tie.Need-enum-known-h
-enum-known-h c = search needs
-
-released-requires : tie.Need-released-requires
-released-requires c κs = search needs
-
-enum-known-h-2 : tie.Need-enum-known-h-2
-enum-known-h-2 c = search needs
-
-guarded-copy-requires : tie.Need-guarded-copy-requires
-guarded-copy-requires c κs = search needs
-
-count-requires : tie.Need-count-requires
-count-requires c κs = search needs
-
-enum-told-4 : tie.Need-enum-told-4
-enum-told-4 c = search needs
-
-bit-requires : tie.Need-bit-requires
-bit-requires c κs = search needs
-
 returns : tie.Need-returns
 unfolding handled
 returns c =
@@ -84,19 +45,19 @@ pub act-spec : {M : Type 1} → statement M
 act-spec =
     tie.close
     (tie.spec
-    enum-told
-    freed-requires
-    enum-told-2
-    entered-requires
-    enum-told-3
-    went-on-requires
-    enum-known-h
-    released-requires
-    enum-known-h-2
-    guarded-copy-requires
-    count-requires
-    enum-told-4
-    bit-requires
+    (λ c. search needs)
+    (λ c κs. search needs)
+    (λ c. search needs)
+    (λ c κs. search needs)
+    (λ c. search needs)
+    (λ c κs. search needs)
+    (λ c. search needs)
+    (λ c κs. search needs)
+    (λ c. search needs)
+    (λ c κs. search needs)
+    (λ c κs. search needs)
+    (λ c. search needs)
+    (λ c κs. search needs)
     returns
     returns-2
     returns-3

@@ -5,12 +5,6 @@ use lib.ListN.{getD, List·getD-eq-default}
 use Rattle.read.proofs.handles.count.Statement.{statement}
 use Rattle.read.proofs.handles.count.Tie as tie
 
-look-up-requires : tie.Need-look-up-requires
-look-up-requires c κs = search needs
-
-shared-slice-read-result : tie.Need-shared-slice-read-result
-shared-slice-read-result c = search needs
-
 returns : tie.Need-returns
 returns c = ap (λ l. getD l 1 0) (c .before .before .look-up .ensures)
 
@@ -18,4 +12,4 @@ returns-2 : tie.Need-returns-2
 returns-2 c = sym (ap (λ l. getD l 1 0) (sym (c .before .look-up .ensures)) ∙ List·getD-eq-default (c .before .look-up .result .now) 0 (c .if1 .left))
 
 pub count-spec : {M : Type 1} → statement M
-count-spec = tie.close (tie.spec look-up-requires shared-slice-read-result returns returns-2)
+count-spec = tie.close (tie.spec (λ c κs. search needs) (λ c. search needs) returns returns-2)

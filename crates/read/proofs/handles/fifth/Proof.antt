@@ -6,12 +6,6 @@ use Rattle.read.specs.Machine.{allOpen}
 use Rattle.read.proofs.handles.fifth.Statement.{statement}
 use Rattle.read.proofs.handles.fifth.Tie as tie
 
-is-load-requires : tie.Need-is-load-requires
-is-load-requires c κs = search needs
-
-all-open-requires : tie.Need-all-open-requires
-all-open-requires c κs = search needs
-
 -- where a load is due, and the pointer is not null
 returns : tie.Need-returns
 returns c =
@@ -28,4 +22,4 @@ returns-3 : tie.Need-returns-3
 returns-3 c = λ i. sym (sym (c .before .is-load .ensures) ∙ c .if1 .left) i && (not (c .before .before .before .args .null) && allOpen (c .before .before .before .args .s .guards))
 
 pub fifth-spec : {M : Type 1} → statement M
-fifth-spec = tie.close (tie.spec is-load-requires all-open-requires returns returns-2 returns-3)
+fifth-spec = tie.close (tie.spec (λ c κs. search needs) (λ c κs. search needs) returns returns-2 returns-3)

@@ -5,12 +5,6 @@ use Rattle.read.proofs.Cases.{copy-right, copy-left, stands-in, stands-
 use Rattle.read.proofs.handles.guarded_copy.Statement.{statement}
 use Rattle.read.proofs.handles.guarded_copy.Tie as tie
 
-mul-x : tie.Need-mul-x
-mul-x c = search needs
-
-array-copy-out-x : tie.Need-array-copy-out-x
-array-copy-out-x c = search needs
-
 returns : tie.Need-returns
 returns c =
     let a = c .before .before .before .args in
@@ -27,4 +21,4 @@ returns-3 c =
     sym (copy-left (a .t1) (a .j) (a .left .now) (a .right .now) (stands-out (a .t1) (a .j) (c .if1 .left)))
 
 pub guarded-copy-spec : {M : Type 1} → statement M
-guarded-copy-spec = tie.close (tie.spec mul-x array-copy-out-x returns returns-2 returns-3)
+guarded-copy-spec = tie.close (tie.spec (λ c. search needs) (λ c. search needs) returns returns-2 returns-3)

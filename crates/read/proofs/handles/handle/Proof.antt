@@ -5,18 +5,6 @@ use Rattle.read.proofs.Cases.{handle-refused, handle-made}
 use Rattle.read.proofs.handles.handle.Statement.{statement}
 use Rattle.read.proofs.handles.handle.Tie as tie
 
-verdict-requires : tie.Need-verdict-requires
-verdict-requires c κs = search needs
-
-enum-known-v : tie.Need-enum-known-v
-enum-known-v c = search needs
-
-enum-told : tie.Need-enum-told
-enum-told c = search needs
-
-act-requires : tie.Need-act-requires
-act-requires c κs = search needs
-
 returns : tie.Need-returns
 returns c =
     let a = c .before .before .before .before .before .before .args in
@@ -31,9 +19,9 @@ pub handle-spec : {M : Type 1} → statement M
 handle-spec =
     tie.close
     (tie.spec
-    verdict-requires
-    enum-known-v
-    enum-told
-    act-requires
+    (λ c κs. search needs)
+    (λ c. search needs)
+    (λ c. search needs)
+    (λ c κs. search needs)
     returns
     returns-2)

@@ -6,12 +6,6 @@ use Rattle.read.specs.Machine.{isOpen}
 use Rattle.read.proofs.handles.lacks_guard.Statement.{statement}
 use Rattle.read.proofs.handles.lacks_guard.Tie as tie
 
-either-requires : tie.Need-either-requires
-either-requires c κs = search needs
-
-is-open-requires : tie.Need-is-open-requires
-is-open-requires c κs = search needs
-
 returns : tie.Need-returns
 returns c =
     let a = c .before .before .before .args in
@@ -24,4 +18,4 @@ returns-2 c =
     ap (λ (b : Bool). b && not (isOpen (a .g) (a .j))) (sym (sym (c .before .either .ensures) ∙ c .if1 .left))
 
 pub lacks-guard-spec : {M : Type 1} → statement M
-lacks-guard-spec = tie.close (tie.spec either-requires is-open-requires returns returns-2)
+lacks-guard-spec = tie.close (tie.spec (λ c κs. search needs) (λ c κs. search needs) returns returns-2)

@@ -11,17 +11,8 @@ use Rattle.read.proofs.Verdicts.{first-here, first-on, first-none}
 use Rattle.read.proofs.handles.verdict.Statement.{statement}
 use Rattle.read.proofs.handles.verdict.Tie as tie
 
-number-requires : tie.Need-number-requires
-number-requires c κs = search needs
-
-guard-named-requires : tie.Need-guard-named-requires
-guard-named-requires c κs = search needs
-
 column-requires : tie.Need-column-requires
 column-requires c κs = (c .before .number .ensures .1, c .before .number .ensures .2)
-
-entry-requires : tie.Need-entry-requires
-entry-requires c κs = search needs
 
 -- the entry of the table
 entry-is : (x : tie.After-entry) → (let a = x .before .before .before .before .before .args in x .entry .result ≡ entry (a .c .phase) (column (a .h) (a .own)))
@@ -39,12 +30,6 @@ guard-is x = x .before .before .guard-named .ensures
 
 returns : tie.Need-returns
 returns c = first-here _ _ _ (c .if1 .taken) refl
-
-mistimed-requires : tie.Need-mistimed-requires
-mistimed-requires c κs = search needs
-
-either-requires : tie.Need-either-requires
-either-requires c κs = search needs
 
 -- not now, by the table or by what is due
 late-is : (x : tie.After-either) →
@@ -66,9 +51,6 @@ returns-3 c =
     (first-on _ _ _ (sym (late-is (y .before)) ∙ y .if2 .left)
     (first-here _ _ _ (eq-eqb _ 7 (sym (entry-is (y .before .before .before .before .before)) ∙ c .if3 .taken)) refl))
 
-leaves-guards-requires : tie.Need-leaves-guards-requires
-leaves-guards-requires c κs = search needs
-
 returns-4 : tie.Need-returns-4
 returns-4 c =
     let t = c .before .before in
@@ -79,9 +61,6 @@ returns-4 c =
     (first-on _ _ _ (sym (late-is (y .before)) ∙ y .if2 .left)
     (first-on _ _ _ (ne-eqb _ 7 (λ z. t .if3 .left (entry-is (y .before .before .before .before .before) ∙ z)))
     (first-here _ _ _ (sym (c .before .leaves-guards .ensures ∙ ap (λ (n : ℕ). leavesGuards n (s .guards)) (number-is e)) ∙ c .if4 .taken) refl)))
-
-lacks-guard-requires : tie.Need-lacks-guard-requires
-lacks-guard-requires c κs = search needs
 
 returns-5 : tie.Need-returns-5
 returns-5 c =
@@ -95,9 +74,6 @@ returns-5 c =
     (first-on _ _ _ (ne-eqb _ 7 (λ z. t .if3 .left (entry-is (y .before .before .before .before .before) ∙ z)))
     (first-on _ _ _ (sym (u .before .leaves-guards .ensures ∙ ap (λ (n : ℕ). leavesGuards n (s .guards)) (number-is e)) ∙ u .if4 .left)
     (first-here _ _ _ (sym (c .before .lacks-guard .ensures ∙ (λ i. lacksGuard (number-is e i) (guard-is e i) (s .guards))) ∙ c .if5 .taken) refl))))
-
-lacks-room-requires : tie.Need-lacks-room-requires
-lacks-room-requires c κs = search needs
 
 returns-6 : tie.Need-returns-6
 returns-6 c =
@@ -133,19 +109,19 @@ pub verdict-spec : {M : Type 1} → statement M
 verdict-spec =
     tie.close
     (tie.spec
-    number-requires
-    guard-named-requires
+    (λ c κs. search needs)
+    (λ c κs. search needs)
     column-requires
-    entry-requires
+    (λ c κs. search needs)
     returns
-    mistimed-requires
-    either-requires
+    (λ c κs. search needs)
+    (λ c κs. search needs)
     returns-2
     returns-3
-    leaves-guards-requires
+    (λ c κs. search needs)
     returns-4
-    lacks-guard-requires
+    (λ c κs. search needs)
     returns-5
-    lacks-room-requires
+    (λ c κs. search needs)
     returns-6
     returns-7)

@@ -22,52 +22,10 @@ abbrev μ-loop : tie.MeasureT-loop
 loop-holds : tie.Need-loop-holds Inv-loop μ-loop
 loop-holds c = (search needs, ap (seek (test (c .before .args .log .now)) 0) (search needs))
 
-mul-lawful : tie.Need-mul-lawful Inv-loop μ-loop
-mul-lawful c = search needs
-
-mul-lawful-2 : tie.Need-mul-lawful-2 Inv-loop μ-loop
-mul-lawful-2 c = search needs
-
-shared-slice-read-lawful : tie.Need-shared-slice-read-lawful Inv-loop μ-loop
-shared-slice-read-lawful c = search needs
-
-mul-lawful-3 : tie.Need-mul-lawful-3 Inv-loop μ-loop
-mul-lawful-3 c = search needs
-
-add-lawful : tie.Need-add-lawful Inv-loop μ-loop
-add-lawful c = search needs
-
-mul-lawful-4 : tie.Need-mul-lawful-4 Inv-loop μ-loop
-mul-lawful-4 c = search needs
-
-shared-slice-read-lawful-2 : tie.Need-shared-slice-read-lawful-2 Inv-loop μ-loop
-shared-slice-read-lawful-2 c = search needs
-
-mul-lawful-5 : tie.Need-mul-lawful-5 Inv-loop μ-loop
-mul-lawful-5 c = search needs
-
-add-lawful-2 : tie.Need-add-lawful-2 Inv-loop μ-loop
-add-lawful-2 c = search needs
-
-mul-lawful-6 : tie.Need-mul-lawful-6 Inv-loop μ-loop
-mul-lawful-6 c = search needs
-
-shared-slice-read-lawful-3 : tie.Need-shared-slice-read-lawful-3 Inv-loop μ-loop
-shared-slice-read-lawful-3 c = search needs
-
-lawful-requires : tie.Need-lawful-requires Inv-loop μ-loop
-lawful-requires c κs = search needs
-
 returns : tie.Need-returns Inv-loop μ-loop
 returns c =
     let g = c .before .before .before .before .before .before .before .before .args .log .now in
     sym (c .before .before .before .before .before .before .loop .inv .1 ∙ seek-here (test g) (c .before .before .before .before .before .before .loop .i) (c .before .before .before .before .before .before .before .before .args .n) (search needs) (ap not (sym (c .before .lawful .ensures)) ∙ c .if1 .taken))
-
-add-i : tie.Need-add-i Inv-loop μ-loop
-add-i c = search needs
-
-loop-less : tie.Need-loop-less Inv-loop μ-loop
-loop-less c = search needs
 
 loop-again : tie.Need-loop-again Inv-loop μ-loop
 loop-again c =
@@ -86,20 +44,20 @@ first-unlawful-spec =
     Inv-loop
     μ-loop
     loop-holds
-    mul-lawful
-    mul-lawful-2
-    shared-slice-read-lawful
-    mul-lawful-3
-    add-lawful
-    mul-lawful-4
-    shared-slice-read-lawful-2
-    mul-lawful-5
-    add-lawful-2
-    mul-lawful-6
-    shared-slice-read-lawful-3
-    lawful-requires
+    (λ c. search needs)
+    (λ c. search needs)
+    (λ c. search needs)
+    (λ c. search needs)
+    (λ c. search needs)
+    (λ c. search needs)
+    (λ c. search needs)
+    (λ c. search needs)
+    (λ c. search needs)
+    (λ c. search needs)
+    (λ c. search needs)
+    (λ c κs. search needs)
     returns
-    add-i
-    loop-less
+    (λ c. search needs)
+    (λ c. search needs)
     loop-again
     returns-2)

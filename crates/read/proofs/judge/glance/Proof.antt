@@ -10,9 +10,6 @@ use Rattle.read.proofs.Cases.{sized-lengths, glanced-length, glanced-br
 use Rattle.read.proofs.judge.glance.Statement.{statement}
 use Rattle.read.proofs.judge.glance.Tie as tie
 
-sized-requires : tie.Need-sized-requires
-sized-requires c κs = search needs
-
 returns : tie.Need-returns
 returns c =
     let a = c .before .before .before .before .before .args in
@@ -28,15 +25,6 @@ shared-slice-read-both-2 c =
     let a = c .before .before .before .before .before .before .before .args in
     omega (arith, sized-lengths (a .left .now) (a .right .now) (a .log .now) (sym (c .before .before .before .sized .ensures) ∙ not-false _ (c .before .before .if1 .left)))
 
-whole-control-requires : tie.Need-whole-control-requires
-whole-control-requires c κs = search needs
-
-both-requires : tie.Need-both-requires
-both-requires c κs = search needs
-
-both-requires-2 : tie.Need-both-requires-2
-both-requires-2 c κs = search needs
-
 returns-2 : tie.Need-returns-2
 returns-2 c =
     let a = c .before .before .before .before .before .before .before .before .before .before .before .args in
@@ -51,12 +39,12 @@ pub glance-spec : {M : Type 1} → statement M
 glance-spec =
     tie.close
     (tie.spec
-    sized-requires
+    (λ c κs. search needs)
     returns
     shared-slice-read-both
     shared-slice-read-both-2
-    whole-control-requires
-    both-requires
-    both-requires-2
+    (λ c κs. search needs)
+    (λ c κs. search needs)
+    (λ c κs. search needs)
     returns-2
     returns-3)

@@ -5,12 +5,6 @@ use Rattle.read.proofs.Cases.{glanced-room, judged-refused, judged-brok
 use Rattle.read.proofs.judge.judge.Statement.{statement}
 use Rattle.read.proofs.judge.judge.Tie as tie
 
-glance-requires : tie.Need-glance-requires
-glance-requires c κs = search needs
-
-enum-known-v : tie.Need-enum-known-v
-enum-known-v c = search needs
-
 enum-told : tie.Need-enum-told
 enum-told c = search needs
 
@@ -38,8 +32,8 @@ pub judge-spec : {M : Type 1} → statement M
 judge-spec =
     tie.close
     (tie.spec
-    glance-requires
-    enum-known-v
+    (λ c κs. search needs)
+    (λ c. search needs)
     enum-told
     first-unlawful-requires
     returns

@@ -6,14 +6,8 @@ use Rattle.read.specs.Machine.{standing}
 use Rattle.write.proofs.begins.begun.Statement.{statement}
 use Rattle.write.proofs.begins.begun.Tie as tie
 
-beginning-requires : tie.Need-beginning-requires
-beginning-requires c κs = search needs
-
-standing-requires : tie.Need-standing-requires
-standing-requires c κs = search needs
-
 returns : tie.Need-returns
 returns c = c .standing .ensures ∙ (λ i. standing (c .before .beginning .ensures i) Publish (c .before .before .args .c))
 
 pub begun-spec : {M : Type 1} → statement M
-begun-spec = tie.close (tie.spec beginning-requires standing-requires returns)
+begun-spec = tie.close (tie.spec (λ c κs. search needs) (λ c κs. search needs) returns)

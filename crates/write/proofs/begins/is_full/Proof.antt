@@ -4,11 +4,8 @@ use Rattle.write.proofs.Made.{full-later}
 use Rattle.write.proofs.begins.is_full.Statement.{statement}
 use Rattle.write.proofs.begins.is_full.Tie as tie
 
-returns : tie.Need-returns
-returns c = search needs
-
 returns-2 : tie.Need-returns-2
 returns-2 c = full-later (c .before .before .args .c) (c .before .if1 .left)
 
 pub is-full-spec : {M : Type 1} → statement M
-is-full-spec = tie.close (tie.spec returns returns-2)
+is-full-spec = tie.close (tie.spec (λ c. search needs) returns-2)

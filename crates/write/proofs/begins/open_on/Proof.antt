@@ -4,24 +4,6 @@ use Rattle.write.proofs.Made.{open-admitted, open-refused}
 use Rattle.write.proofs.begins.open_on.Statement.{statement}
 use Rattle.write.proofs.begins.open_on.Tie as tie
 
-column-of-requires : tie.Need-column-of-requires
-column-of-requires c κs = search needs
-
-writer-verdict-requires : tie.Need-writer-verdict-requires
-writer-verdict-requires c κs = search needs
-
-enum-told : tie.Need-enum-told
-enum-told c = search needs
-
-opened-requires : tie.Need-opened-requires
-opened-requires c κs = search needs
-
-enum-known-v : tie.Need-enum-known-v
-enum-known-v c = search needs
-
-refused-requires : tie.Need-refused-requires
-refused-requires c κs = search needs
-
 returns : tie.Need-returns
 returns c =
     let a = c .before .before .before .before .before .args in
@@ -36,11 +18,11 @@ pub open-on-spec : {M : Type 1} → statement M
 open-on-spec =
     tie.close
     (tie.spec
-    column-of-requires
-    writer-verdict-requires
-    enum-told
-    opened-requires
-    enum-known-v
-    refused-requires
+    (λ c κs. search needs)
+    (λ c κs. search needs)
+    (λ c. search needs)
+    (λ c κs. search needs)
+    (λ c. search needs)
+    (λ c κs. search needs)
     returns
     returns-2)

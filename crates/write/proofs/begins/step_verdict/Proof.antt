@@ -6,14 +6,8 @@ use Rattle.read.proofs.Verdicts.{first-here, first-on, first-none}
 use Rattle.write.proofs.begins.step_verdict.Statement.{statement}
 use Rattle.write.proofs.begins.step_verdict.Tie as tie
 
-is-gone-requires : tie.Need-is-gone-requires
-is-gone-requires c κs = search needs
-
 returns : tie.Need-returns
 returns c = first-here _ _ _ (sym (c .before .is-gone .ensures) ∙ c .if1 .taken) refl
-
-entry-requires : tie.Need-entry-requires
-entry-requires c κs = search needs
 
 returns-2 : tie.Need-returns-2
 returns-2 c =
@@ -28,4 +22,4 @@ returns-3 c =
     (first-on _ _ _ (ne-eqb _ 6 (λ z. c .if2 .left (c .before .entry .ensures ∙ z))) (first-none refl))
 
 pub step-verdict-spec : {M : Type 1} → statement M
-step-verdict-spec = tie.close (tie.spec is-gone-requires returns entry-requires returns-2 returns-3)
+step-verdict-spec = tie.close (tie.spec (λ c κs. search needs) returns (λ c κs. search needs) returns-2 returns-3)

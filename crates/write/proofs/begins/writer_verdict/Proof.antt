@@ -9,9 +9,6 @@ use Rattle.read.proofs.Verdicts.{first-here, first-on, first-none}
 use Rattle.write.proofs.begins.writer_verdict.Statement.{statement}
 use Rattle.write.proofs.begins.writer_verdict.Tie as tie
 
-is-gone-requires : tie.Need-is-gone-requires
-is-gone-requires c κs = search needs
-
 returns : tie.Need-returns
 returns c = first-here _ _ _ (sym (c .before .is-gone .ensures) ∙ c .if1 .taken) refl
 
@@ -19,15 +16,6 @@ returns-2 : tie.Need-returns-2
 returns-2 c =
     let x = c .before in
     first-on _ _ _ (sym (x .before .is-gone .ensures) ∙ x .if1 .left) (first-here _ _ _ (c .if2 .taken) refl)
-
-entry-requires : tie.Need-entry-requires
-entry-requires c κs = search needs
-
-is-due-requires : tie.Need-is-due-requires
-is-due-requires c κs = search needs
-
-either-requires : tie.Need-either-requires
-either-requires c κs = search needs
 
 -- not now, by the table or by what slot 0 has due
 late-is : (x : tie.After-either) →
@@ -41,9 +29,6 @@ returns-3 c =
     let x = y .before in
     first-on _ _ _ (sym (x .before .is-gone .ensures) ∙ x .if1 .left)
     (first-on _ _ _ (y .if2 .left) (first-here _ _ _ (sym (late-is (c .before)) ∙ c .if3 .taken) refl))
-
-any-open-requires : tie.Need-any-open-requires
-any-open-requires c κs = search needs
 
 returns-4 : tie.Need-returns-4
 returns-4 c =
@@ -80,14 +65,14 @@ pub writer-verdict-spec : {M : Type 1} → statement M
 writer-verdict-spec =
     tie.close
     (tie.spec
-    is-gone-requires
+    (λ c κs. search needs)
     returns
     returns-2
-    entry-requires
-    is-due-requires
-    either-requires
+    (λ c κs. search needs)
+    (λ c κs. search needs)
+    (λ c κs. search needs)
     returns-3
-    any-open-requires
+    (λ c κs. search needs)
     returns-4
     returns-5
     returns-6)

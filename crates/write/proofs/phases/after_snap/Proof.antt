@@ -6,19 +6,10 @@ use Rattle.write.proofs.Next.{snapping-here, snapping-done}
 use Rattle.write.proofs.phases.after_snap.Statement.{statement}
 use Rattle.write.proofs.phases.after_snap.Tie as tie
 
-add-t4 : tie.Need-add-t4
-add-t4 c = search needs
-
-at-requires : tie.Need-at-requires
-at-requires c κs = search needs
-
 returns : tie.Need-returns
 returns c =
     let a = c .before .before .args in
     snapping-here (a .c) (a .k + 1) (omega arith) (c .at .ensures)
-
-ended-requires : tie.Need-ended-requires
-ended-requires c κs = search needs
 
 returns-2 : tie.Need-returns-2
 returns-2 c =
@@ -26,4 +17,4 @@ returns-2 c =
     snapping-done (a .c) (a .k + 1) (omega arith) (c .ended .ensures)
 
 pub after-snap-spec : {M : Type 1} → statement M
-after-snap-spec = tie.close (tie.spec add-t4 at-requires returns ended-requires returns-2)
+after-snap-spec = tie.close (tie.spec (λ c. search needs) (λ c κs. search needs) returns (λ c κs. search needs) returns-2)

@@ -5,19 +5,10 @@ use Rattle.read.specs.Machine.{standing}
 use Rattle.write.proofs.phases.ended.Statement.{statement}
 use Rattle.write.proofs.phases.ended.Tie as tie
 
-published-requires : tie.Need-published-requires
-published-requires c κs = search needs
-
-next-job-requires : tie.Need-next-job-requires
-next-job-requires c κs = search needs
-
-standing-requires : tie.Need-standing-requires
-standing-requires c κs = search needs
-
 returns : tie.Need-returns
 returns c =
     c .standing .ensures
     ∙ (λ i. standing (c .before .before .published .ensures i) (c .before .next-job .ensures i) (c .before .before .before .args .c))
 
 pub ended-spec : {M : Type 1} → statement M
-ended-spec = tie.close (tie.spec published-requires next-job-requires standing-requires returns)
+ended-spec = tie.close (tie.spec (λ c κs. search needs) (λ c κs. search needs) (λ c κs. search needs) returns)

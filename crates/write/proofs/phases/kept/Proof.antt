@@ -6,9 +6,6 @@ use Rattle.write.proofs.Next.{keeping-here, keeping-done}
 use Rattle.write.proofs.phases.kept.Statement.{statement}
 use Rattle.write.proofs.phases.kept.Tie as tie
 
-add-next : tie.Need-add-next
-add-next c = search needs
-
 returns : tie.Need-returns
 returns c =
     let a = c .before .before .args in
@@ -25,4 +22,4 @@ returns-3 c =
     keeping-done (a .n) (a .k + 1) (omega arith)
 
 pub kept-spec : {M : Type 1} → statement M
-kept-spec = tie.close (tie.spec add-next returns returns-2 returns-3)
+kept-spec = tie.close (tie.spec (λ c. search needs) returns returns-2 returns-3)

@@ -6,9 +6,6 @@ use Rattle.write.proofs.Next.{last-polling-here, last-polling-done}
 use Rattle.write.proofs.phases.last_passed.Statement.{statement}
 use Rattle.write.proofs.phases.last_passed.Tie as tie
 
-add-t3 : tie.Need-add-t3
-add-t3 c = search needs
-
 returns : tie.Need-returns
 returns c = last-polling-here (c .before .args .k + 1) (omega arith)
 
@@ -16,4 +13,4 @@ returns-2 : tie.Need-returns-2
 returns-2 c = last-polling-done (c .before .args .k + 1) (omega arith)
 
 pub last-passed-spec : {M : Type 1} → statement M
-last-passed-spec = tie.close (tie.spec add-t3 returns returns-2)
+last-passed-spec = tie.close (tie.spec (λ c. search needs) returns returns-2)

@@ -6,9 +6,6 @@ use Rattle.write.proofs.Next.{last-snapping-here, last-snapping-done}
 use Rattle.write.proofs.phases.last_seen.Statement.{statement}
 use Rattle.write.proofs.phases.last_seen.Tie as tie
 
-add-t3 : tie.Need-add-t3
-add-t3 c = search needs
-
 returns : tie.Need-returns
 returns c = last-snapping-here (c .before .args .k + 1) (omega arith)
 
@@ -16,4 +13,4 @@ returns-2 : tie.Need-returns-2
 returns-2 c = last-snapping-done (c .before .args .k + 1) (omega arith)
 
 pub last-seen-spec : {M : Type 1} → statement M
-last-seen-spec = tie.close (tie.spec add-t3 returns returns-2)
+last-seen-spec = tie.close (tie.spec (λ c. search needs) returns returns-2)

@@ -9,13 +9,10 @@ returns c =
     let a = c .before .args in
     polling-here (a .c) (a .k) (c .if1 .taken)
 
-polled-requires : tie.Need-polled-requires
-polled-requires c κs = search needs
-
 returns-2 : tie.Need-returns-2
 returns-2 c =
     let a = c .before .before .args in
     polling-done (a .c) (a .k) (c .before .if1 .left) (c .polled .ensures)
 
 pub polling-spec : {M : Type 1} → statement M
-polling-spec = tie.close (tie.spec returns polled-requires returns-2)
+polling-spec = tie.close (tie.spec returns (λ c κs. search needs) returns-2)

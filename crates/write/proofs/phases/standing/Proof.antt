@@ -3,11 +3,8 @@ use borrow.Author.Needs.{needs}
 use Rattle.write.proofs.phases.standing.Statement.{statement}
 use Rattle.write.proofs.phases.standing.Tie as tie
 
-locks-requires : tie.Need-locks-requires
-locks-requires c κs = search needs
-
 returns : tie.Need-returns
 returns c = simp (c .locks .ensures)
 
 pub standing-spec : {M : Type 1} → statement M
-standing-spec = tie.close (tie.spec locks-requires returns)
+standing-spec = tie.close (tie.spec (λ c κs. search needs) returns)

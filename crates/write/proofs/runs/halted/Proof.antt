@@ -5,12 +5,6 @@ use Rattle.write.proofs.Rows.{halted-poll, halted-last}
 use Rattle.write.proofs.runs.halted.Statement.{statement}
 use Rattle.write.proofs.runs.halted.Tie as tie
 
-row-requires : tie.Need-row-requires
-row-requires c κs = search needs
-
-stopped-requires : tie.Need-stopped-requires
-stopped-requires c κs = search needs
-
 returns : tie.Need-returns
 returns c =
     let a = c .before .before .before .args in
@@ -22,4 +16,4 @@ returns-2 c =
     halted-last (a .p) (c .before .row .ensures) (a .c) (c .if1 .left)
 
 pub halted-spec : {M : Type 1} → statement M
-halted-spec = tie.close (tie.spec row-requires stopped-requires returns returns-2)
+halted-spec = tie.close (tie.spec (λ c κs. search needs) (λ c κs. search needs) returns returns-2)

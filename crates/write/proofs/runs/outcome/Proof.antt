@@ -5,12 +5,6 @@ use Rattle.write.proofs.Rows.{answer-poll, answer-last}
 use Rattle.write.proofs.runs.outcome.Statement.{statement}
 use Rattle.write.proofs.runs.outcome.Tie as tie
 
-row-requires : tie.Need-row-requires
-row-requires c κs = search needs
-
-stop-answer-requires : tie.Need-stop-answer-requires
-stop-answer-requires c κs = search needs
-
 returns : tie.Need-returns
 returns c =
     let a = c .before .before .before .args in
@@ -22,4 +16,4 @@ returns-2 c =
     answer-last (a .c .phase) (c .before .row .ensures) (a .c .job) (c .if1 .left)
 
 pub outcome-spec : {M : Type 1} → statement M
-outcome-spec = tie.close (tie.spec row-requires stop-answer-requires returns returns-2)
+outcome-spec = tie.close (tie.spec (λ c κs. search needs) (λ c κs. search needs) returns returns-2)

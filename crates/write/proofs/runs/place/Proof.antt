@@ -5,11 +5,8 @@ use Rattle.write.proofs.Turns.{place-below}
 use Rattle.write.proofs.runs.place.Statement.{statement}
 use Rattle.write.proofs.runs.place.Tie as tie
 
-place-requires : tie.Need-place-requires
-place-requires c κs = search needs
-
 returns : tie.Need-returns
 returns c = (c .place .ensures, place-below (control-whole (c .before .args .c) (c .before .pre)) (c .place .ensures))
 
 pub place-spec : {M : Type 1} → statement M
-place-spec = tie.close (tie.spec place-requires returns)
+place-spec = tie.close (tie.spec (λ c κs. search needs) returns)

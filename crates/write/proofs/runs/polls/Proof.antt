@@ -4,9 +4,6 @@ use Rattle.write.proofs.Rows.{polls-poll, polls-last}
 use Rattle.write.proofs.runs.polls.Statement.{statement}
 use Rattle.write.proofs.runs.polls.Tie as tie
 
-row-requires : tie.Need-row-requires
-row-requires c κs = search needs
-
 returns : tie.Need-returns
 returns c = polls-poll (c .before .before .args .c .phase) (c .before .row .ensures) (c .if1 .taken)
 
@@ -14,4 +11,4 @@ returns-2 : tie.Need-returns-2
 returns-2 c = polls-last (c .before .before .args .c .phase) (c .before .row .ensures) (c .if1 .left)
 
 pub polls-spec : {M : Type 1} → statement M
-polls-spec = tie.close (tie.spec row-requires returns returns-2)
+polls-spec = tie.close (tie.spec (λ c κs. search needs) returns returns-2)

@@ -40,14 +40,8 @@ steps-holds c =
       log = refl;
     }
 
-underway-requires : tie.Need-underway-requires Inv-loop μ-loop Inv-steps μ-steps
-underway-requires c κs = search needs
-
 place-requires : tie.Need-place-requires Inv-loop μ-loop Inv-steps μ-steps
 place-requires c κs = whole-control (c .before .before .steps .c) (c .before .before .steps .inv .goes .whole)
-
-polls-requires : tie.Need-polls-requires Inv-loop μ-loop Inv-steps μ-steps
-polls-requires c κs = search needs
 
 loop-holds : tie.Need-loop-holds Inv-loop μ-loop Inv-steps μ-steps
 loop-holds c =
@@ -55,38 +49,8 @@ loop-holds c =
     scan-begins (v .c) (v .n) (c .before .before .place .result) (v .answer) (v .slots) (v .snaps) (v .left) (v .right) (v .log)
     (sym (c .before .polls .ensures) ∙ c .if2 .taken) (c .before .before .place .ensures .0) (c .before .before .place .ensures .1)
 
-mul-holds : tie.Need-mul-holds Inv-loop μ-loop Inv-steps μ-steps
-mul-holds c = search needs
-
-array-copy-out-holds : tie.Need-array-copy-out-holds Inv-loop μ-loop Inv-steps μ-steps
-array-copy-out-holds c = search needs
-
-mul-holds-2 : tie.Need-mul-holds-2 Inv-loop μ-loop Inv-steps μ-steps
-mul-holds-2 c = search needs
-
-array-read-holds : tie.Need-array-read-holds Inv-loop μ-loop Inv-steps μ-steps
-array-read-holds c = search needs
-
-holds-requires : tie.Need-holds-requires Inv-loop μ-loop Inv-steps μ-steps
-holds-requires c κs = search needs
-
-outcome-requires : tie.Need-outcome-requires Inv-loop μ-loop Inv-steps μ-steps
-outcome-requires c κs = search needs
-
-scanning-requires : tie.Need-scanning-requires Inv-loop μ-loop Inv-steps μ-steps
-scanning-requires c κs = search needs
-
-halted-requires : tie.Need-halted-requires Inv-loop μ-loop Inv-steps μ-steps
-halted-requires c κs = search needs
-
-add-i : tie.Need-add-i Inv-loop μ-loop Inv-steps μ-steps
-add-i c = search needs
-
 add-n : tie.Need-add-n Inv-loop μ-loop Inv-steps μ-steps
 add-n c = let h = goes-few (c .before .before .before .before .loop .inv .scans _ _ (c .before .before .before .before .before .before .before .before .before .before .steps .inv .goes)) in omega arith
-
-loop-less : tie.Need-loop-less Inv-loop μ-loop Inv-steps μ-steps
-loop-less c = search needs
 
 loop-again : tie.Need-loop-again Inv-loop μ-loop Inv-steps μ-steps
 loop-again c =
@@ -94,9 +58,6 @@ loop-again c =
     let i = c .before .before .before .before .loop .i in
     scan-on (c .before .before .before .before .loop .inv) (c .before .before .before .loop-test .taken)
     (holds-there (v .slots) i (getD (v .snaps) i 0) _ (omega (arith, v .inv .slots, c .before .before .before .loop-test .taken)) (c .before .holds .ensures) (c .if3 .left))
-
-scanning-requires-2 : tie.Need-scanning-requires-2 Inv-loop μ-loop Inv-steps μ-steps
-scanning-requires-2 c κs = search needs
 
 steps-again : tie.Need-steps-again Inv-loop μ-loop Inv-steps μ-steps
 steps-again c = runs-scanned (c .before .before .before .before .before .before .before .before .steps .inv) (c .before .before .loop .inv) (c .scanning2 .ensures)
@@ -106,33 +67,6 @@ steps-less c =
     let v = c .before .before .loop .inv in
     let x = steps-again c in
     omega (arith, x .goes .count, c .before .before .before .before .before .before .before .before .steps .inv .goes .count, v .count, v .from, c .before .loop-test .left)
-
-mul-advance : tie.Need-mul-advance Inv-loop μ-loop Inv-steps μ-steps
-mul-advance c = search needs
-
-array-copy-out-advance : tie.Need-array-copy-out-advance Inv-loop μ-loop Inv-steps μ-steps
-array-copy-out-advance c = search needs
-
-mul-advance-2 : tie.Need-mul-advance-2 Inv-loop μ-loop Inv-steps μ-steps
-mul-advance-2 c = search needs
-
-array-read-advance : tie.Need-array-read-advance Inv-loop μ-loop Inv-steps μ-steps
-array-read-advance c = search needs
-
-advance-requires : tie.Need-advance-requires Inv-loop μ-loop Inv-steps μ-steps
-advance-requires c κs = search needs
-
-mul-slots : tie.Need-mul-slots Inv-loop μ-loop Inv-steps μ-steps
-mul-slots c = search needs
-
-array-set-from-slots : tie.Need-array-set-from-slots Inv-loop μ-loop Inv-steps μ-steps
-array-set-from-slots c = search needs
-
-mul-snaps : tie.Need-mul-snaps Inv-loop μ-loop Inv-steps μ-steps
-mul-snaps c = search needs
-
-array-write-snaps : tie.Need-array-write-snaps Inv-loop μ-loop Inv-steps μ-steps
-array-write-snaps c = search needs
 
 add-n-2 : tie.Need-add-n-2 Inv-loop μ-loop Inv-steps μ-steps
 add-n-2 c = let h = goes-few (c .before .before .before .before .before .before .before .before .before .before .before .before .before .before .before .before .before .before .steps .inv .goes) in omega arith
@@ -186,34 +120,34 @@ run-whole-spec =
     Inv-steps
     μ-steps
     steps-holds
-    underway-requires
+    (λ c κs. search needs)
     place-requires
-    polls-requires
+    (λ c κs. search needs)
     loop-holds
-    mul-holds
-    array-copy-out-holds
-    mul-holds-2
-    array-read-holds
-    holds-requires
-    outcome-requires
-    scanning-requires
-    halted-requires
-    add-i
+    (λ c. search needs)
+    (λ c. search needs)
+    (λ c. search needs)
+    (λ c. search needs)
+    (λ c κs. search needs)
+    (λ c κs. search needs)
+    (λ c κs. search needs)
+    (λ c κs. search needs)
+    (λ c. search needs)
     add-n
-    loop-less
+    (λ c. search needs)
     loop-again
-    scanning-requires-2
+    (λ c κs. search needs)
     steps-less
     steps-again
-    mul-advance
-    array-copy-out-advance
-    mul-advance-2
-    array-read-advance
-    advance-requires
-    mul-slots
-    array-set-from-slots
-    mul-snaps
-    array-write-snaps
+    (λ c. search needs)
+    (λ c. search needs)
+    (λ c. search needs)
+    (λ c. search needs)
+    (λ c κs. search needs)
+    (λ c. search needs)
+    (λ c. search needs)
+    (λ c. search needs)
+    (λ c. search needs)
     add-n-2
     steps-less-2
     steps-again-2

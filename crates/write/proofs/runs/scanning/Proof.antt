@@ -6,14 +6,8 @@ use Rattle.write.specs.Steps.{at}
 use Rattle.write.proofs.runs.scanning.Statement.{statement}
 use Rattle.write.proofs.runs.scanning.Tie as tie
 
-scanning-at-requires : tie.Need-scanning-at-requires
-scanning-at-requires c κs = search needs
-
-at-requires : tie.Need-at-requires
-at-requires c κs = search needs
-
 returns : tie.Need-returns
 returns c = c .at .ensures ∙ ap (λ (p : Phase). at p (c .before .before .args .c)) (c .before .scanning-at .ensures)
 
 pub scanning-spec : {M : Type 1} → statement M
-scanning-spec = tie.close (tie.spec scanning-at-requires at-requires returns)
+scanning-spec = tie.close (tie.spec (λ c κs. search needs) (λ c κs. search needs) returns)

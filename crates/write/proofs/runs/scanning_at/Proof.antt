@@ -5,19 +5,10 @@ use Rattle.write.proofs.Rows.{scanning-poll, scanning-last, scanning-no
 use Rattle.write.proofs.runs.scanning_at.Statement.{statement}
 use Rattle.write.proofs.runs.scanning_at.Tie as tie
 
-row-requires : tie.Need-row-requires
-row-requires c κs = search needs
-
-polling-requires : tie.Need-polling-requires
-polling-requires c κs = search needs
-
 returns : tie.Need-returns
 returns c =
     let a = c .before .before .before .args in
     c .polling .ensures ∙ scanning-poll (a .c .phase) (c .before .before .row .ensures) (a .c) (a .i) (c .before .if1 .taken)
-
-last-polling-requires : tie.Need-last-polling-requires
-last-polling-requires c κs = search needs
 
 returns-2 : tie.Need-returns-2
 returns-2 c =
@@ -32,4 +23,4 @@ returns-3 c =
 pub scanning-at-spec : {M : Type 1} → statement M
 scanning-at-spec =
     tie.close
-    (tie.spec row-requires polling-requires returns last-polling-requires returns-2 returns-3)
+    (tie.spec (λ c κs. search needs) (λ c κs. search needs) returns (λ c κs. search needs) returns-2 returns-3)

@@ -4,30 +4,6 @@ use Rattle.write.proofs.Lent.{logged-applied, logged-beyond}
 use Rattle.write.proofs.slices.apply_logged.Statement.{statement}
 use Rattle.write.proofs.slices.apply_logged.Tie as tie
 
-mul-at : tie.Need-mul-at
-mul-at c = search needs
-
-fetch-requires : tie.Need-fetch-requires
-fetch-requires c κs = search needs
-
-add-fetch : tie.Need-add-fetch
-add-fetch c = search needs
-
-fetch-requires-2 : tie.Need-fetch-requires-2
-fetch-requires-2 c κs = search needs
-
-add-fetch-2 : tie.Need-add-fetch-2
-add-fetch-2 c = search needs
-
-fetch-requires-3 : tie.Need-fetch-requires-3
-fetch-requires-3 c κs = search needs
-
-apply-requires : tie.Need-apply-requires
-apply-requires c κs = search needs
-
-same-length : tie.Need-same-length
-same-length c = search needs
-
 returns : tie.Need-returns
 returns c =
     let a = c .before .before .before .before .before .before .before .before .before .before .args in
@@ -42,13 +18,13 @@ pub apply-logged-spec : {M : Type 1} → statement M
 apply-logged-spec =
     tie.close
     (tie.spec
-    mul-at
-    fetch-requires
-    add-fetch
-    fetch-requires-2
-    add-fetch-2
-    fetch-requires-3
-    apply-requires
-    same-length
+    (λ c. search needs)
+    (λ c κs. search needs)
+    (λ c. search needs)
+    (λ c κs. search needs)
+    (λ c. search needs)
+    (λ c κs. search needs)
+    (λ c κs. search needs)
+    (λ c. search needs)
     returns
     returns-2)

@@ -5,17 +5,8 @@ use lib.ListN.{List·getD-eq-default}
 use Rattle.write.proofs.slices.fetch.Statement.{statement}
 use Rattle.write.proofs.slices.fetch.Tie as tie
 
-mul-result : tie.Need-mul-result
-mul-result c = search needs
-
-shared-slice-read-result : tie.Need-shared-slice-read-result
-shared-slice-read-result c = search needs
-
-returns : tie.Need-returns
-returns c = search needs
-
 returns-2 : tie.Need-returns-2
 returns-2 c = sym (List·getD-eq-default (c .before .args .log .now) 0 (c .if1 .left))
 
 pub fetch-spec : {M : Type 1} → statement M
-fetch-spec = tie.close (tie.spec mul-result shared-slice-read-result returns returns-2)
+fetch-spec = tie.close (tie.spec (λ c. search needs) (λ c. search needs) (λ c. search needs) returns-2)

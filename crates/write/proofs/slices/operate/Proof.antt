@@ -7,22 +7,10 @@ use Rattle.write.proofs.Lent.{of-left, of-right}
 use Rattle.write.proofs.slices.operate.Statement.{statement}
 use Rattle.write.proofs.slices.operate.Tie as tie
 
-apply-requires : tie.Need-apply-requires
-apply-requires c κs = search needs
-
-apply-requires-2 : tie.Need-apply-requires-2
-apply-requires-2 c κs = search needs
-
-same-length : tie.Need-same-length
-same-length c = search needs
-
 returns : tie.Need-returns
 returns c =
     let a = c .before .before .before .before .before .before .before .args in
     of-left (a .side) (operated (a .kind) (a .key) (a .amount)) (a .left .now) (a .right .now) (c .before .before .before .before .if1 .taken) (ap (λ (o : Out). o .copy) (c .before .before .apply .ensures))
-
-same-length-2 : tie.Need-same-length-2
-same-length-2 c = search needs
 
 returns-2 : tie.Need-returns-2
 returns-2 c =
@@ -32,4 +20,4 @@ returns-2 c =
 pub operate-spec : {M : Type 1} → statement M
 operate-spec =
     tie.close
-    (tie.spec apply-requires apply-requires-2 same-length returns same-length-2 returns-2)
+    (tie.spec (λ c κs. search needs) (λ c κs. search needs) (λ c. search needs) returns (λ c. search needs) returns-2)

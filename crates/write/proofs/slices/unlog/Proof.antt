@@ -6,28 +6,10 @@ use Rattle.write.proofs.Lent.{unlogged-room, unlogged-beyond}
 use Rattle.write.proofs.slices.unlog.Statement.{statement}
 use Rattle.write.proofs.slices.unlog.Tie as tie
 
-close-gap-requires : tie.Need-close-gap-requires
-close-gap-requires c κs = search needs
-
-sub-close-gap : tie.Need-sub-close-gap
-sub-close-gap c = search needs
-
-mul-close-gap : tie.Need-mul-close-gap
-mul-close-gap c = search needs
-
-close-gap-requires-2 : tie.Need-close-gap-requires-2
-close-gap-requires-2 c κs = search needs
-
-same-length : tie.Need-same-length
-same-length c = search needs
-
 returns : tie.Need-returns
 returns c =
     let a = c .before .before .before .before .before .before .before .args in
     unlogged-room (a .n) 0 (a .log .now) (c .before .before .before .before .before .if1 .taken) (omega arith) (c .before .before .close-gap .ensures)
-
-same-length-2 : tie.Need-same-length-2
-same-length-2 c = search needs
 
 returns-2 : tie.Need-returns-2
 returns-2 c =
@@ -43,12 +25,12 @@ pub unlog-spec : {M : Type 1} → statement M
 unlog-spec =
     tie.close
     (tie.spec
-    close-gap-requires
-    sub-close-gap
-    mul-close-gap
-    close-gap-requires-2
-    same-length
+    (λ c κs. search needs)
+    (λ c. search needs)
+    (λ c. search needs)
+    (λ c κs. search needs)
+    (λ c. search needs)
     returns
-    same-length-2
+    (λ c. search needs)
     returns-2
     returns-3)

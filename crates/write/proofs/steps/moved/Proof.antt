@@ -5,9 +5,6 @@ use Rattle.write.proofs.Next.{moved-on, moved-end}
 use Rattle.write.proofs.steps.moved.Statement.{statement}
 use Rattle.write.proofs.steps.moved.Tie as tie
 
-underway-requires : tie.Need-underway-requires
-underway-requires c κs = search needs
-
 returns : tie.Need-returns
 returns c =
     let a = c .before .before .args in
@@ -19,4 +16,4 @@ returns-2 c =
     moved-end (a .c) (a .s) (a .e) (sym (c .before .underway .ensures) ∙ c .if1 .left)
 
 pub moved-spec : {M : Type 1} → statement M
-moved-spec = tie.close (tie.spec underway-requires returns returns-2)
+moved-spec = tie.close (tie.spec (λ c κs. search needs) returns returns-2)

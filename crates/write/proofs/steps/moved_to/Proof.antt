@@ -5,16 +5,10 @@ use Rattle.write.proofs.Next.{moved-by}
 use Rattle.write.proofs.steps.moved_to.Statement.{statement}
 use Rattle.write.proofs.steps.moved_to.Tie as tie
 
-at-requires : tie.Need-at-requires
-at-requires c κs = search needs
-
-moved-requires : tie.Need-moved-requires
-moved-requires c κs = search needs
-
 returns : tie.Need-returns
 returns c =
     let a = c .before .before .args in
     moved-by (at (a .p) (a .c)) (a .s) (a .e) (c .before .at .ensures) (c .moved .ensures)
 
 pub moved-to-spec : {M : Type 1} → statement M
-moved-to-spec = tie.close (tie.spec at-requires moved-requires returns)
+moved-to-spec = tie.close (tie.spec (λ c κs. search needs) (λ c κs. search needs) returns)

@@ -5,22 +5,10 @@ use Rattle.write.proofs.Next.{poll-stopped, poll-passed}
 use Rattle.write.proofs.steps.poll.Statement.{statement}
 use Rattle.write.proofs.steps.poll.Tie as tie
 
-holds-requires : tie.Need-holds-requires
-holds-requires c κs = search needs
-
-stopped-requires : tie.Need-stopped-requires
-stopped-requires c κs = search needs
-
 returns : tie.Need-returns
 returns c =
     let a = c .before .before .before .args in
     poll-stopped (a .c) (a .s) (a .e) (a .k) (sym (c .before .before .holds .ensures) ∙ c .before .if1 .taken) (c .stopped .ensures)
-
-passed-requires : tie.Need-passed-requires
-passed-requires c κs = search needs
-
-moved-to-requires : tie.Need-moved-to-requires
-moved-to-requires c κs = search needs
 
 returns-2 : tie.Need-returns-2
 returns-2 c =
@@ -30,4 +18,4 @@ returns-2 c =
 pub poll-spec : {M : Type 1} → statement M
 poll-spec =
     tie.close
-    (tie.spec holds-requires stopped-requires returns passed-requires moved-to-requires returns-2)
+    (tie.spec (λ c κs. search needs) (λ c κs. search needs) returns (λ c κs. search needs) (λ c κs. search needs) returns-2)
