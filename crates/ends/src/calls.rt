@@ -178,7 +178,7 @@ fn lent(
 }
 
 // A machine over slices of the right lengths.
-pub fn whole(st: State) -> World {
+pub(crate) fn whole(st: State) -> World {
     World {
         state: st,
         left: table::WORDS,
@@ -217,7 +217,7 @@ fn say_slice(name: &[u8], a: &[u64; SPACE], b: &[u64; SPACE]) {
 }
 
 // A line, and what it led to.
-pub fn told(
+pub(crate) fn told(
     line: &[u8],
     w: World,
     left: &mut [u64; SPACE],

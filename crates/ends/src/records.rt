@@ -310,14 +310,14 @@ fn say_slots(st: State, after: State) {
 }
 
 // What of the state is another after a call.
-pub fn say_state(st: State, after: State) {
+pub(crate) fn say_state(st: State, after: State) {
     let c = st.control;
     let d = after.control;
     say_control(numbers(c), numbers(d));
     say_slots(st, after);
 }
 
-pub fn with_slot(st: State, i: usize, s: Slot) -> State {
+pub(crate) fn with_slot(st: State, i: usize, s: Slot) -> State {
     let mut after = st;
     let mut slots = st.slots;
     if i < SLOTS {
@@ -363,7 +363,7 @@ fn set_phase(st: State, line: &[u8]) -> State {
 }
 
 // A line that sets up a part of the state.
-pub fn set_up(k: usize, line: &[u8], st: State) -> State {
+pub(crate) fn set_up(k: usize, line: &[u8], st: State) -> State {
     match k {
         32 => set_field(st, line),
         33 => set_phase(st, line),

@@ -69,7 +69,7 @@ fn paint(w: &mut [u64], line: &[u8]) {
     }
 }
 
-pub fn set_up(line: &[u8], w: &mut [u64]) -> Answer {
+pub(crate) fn set_up(line: &[u8], w: &mut [u64]) -> Answer {
     paint(w, line);
     Answer::Done
 }
@@ -100,7 +100,7 @@ fn closed(w: &mut [u64], gap: usize, n: usize) -> Answer {
     Answer::Done
 }
 
-pub fn call(k: usize, line: &[u8], w: &mut [u64]) -> Answer {
+pub(crate) fn call(k: usize, line: &[u8], w: &mut [u64]) -> Answer {
     let x = tell::value(line, 1);
     let y = tell::value(line, 2);
     match k {
