@@ -57,8 +57,8 @@ fn part<'a>(
     log: &[u64],
 ) -> &'a [u64] {
     match k {
-        22 => read::view(st, x as usize, j, left, right, log),
-        23 => read::pair(st, x as usize, j, key, left, right, log),
+        22 => machine::view(st, x as usize, j, left, right, log),
+        23 => machine::pair(st, x as usize, j, key, left, right, log),
         24 => table::look_up(left, x),
         _ => table::used(left),
     }
@@ -98,17 +98,17 @@ fn on_state<'a>(
     let j = value(line, 2) as usize;
     let key = value(line, 3);
     match k {
-        1 => read::create(st, left, right, log),
-        2 => read::drop(st, i, left, right, log),
-        3 => read::enter(st, i, left, right, log),
-        4 => read::go_on(st, i, left, right, log),
-        5 => read::release(st, i, j, left, right, log),
-        6 => read::look_up(st, i, j, key, left, right, log),
-        7 => read::was_dropped(st, i, left, right, log),
-        9 => write::publish(st, left, right, log),
-        10 => write::try_publish(st, left, right, log),
-        11 => write::flush(st, left, right, log),
-        12 => write::take(st, left, right, log),
+        1 => machine::create(st, left, right, log),
+        2 => machine::drop(st, i, left, right, log),
+        3 => machine::enter(st, i, left, right, log),
+        4 => machine::go_on(st, i, left, right, log),
+        5 => machine::release(st, i, j, left, right, log),
+        6 => machine::look_up(st, i, j, key, left, right, log),
+        7 => machine::was_dropped(st, i, left, right, log),
+        9 => machine::publish(st, left, right, log),
+        10 => machine::try_publish(st, left, right, log),
+        11 => machine::flush(st, left, right, log),
+        12 => machine::take(st, left, right, log),
         21 => left_by(st, i, j),
         22..=25 => {
             say_part(part(k, x, j, key, st, left, right, log));
@@ -134,7 +134,7 @@ fn acted(
 ) -> Reply {
     match k {
         0 | 31 => read::start(left, right, log),
-        8 => write::append(
+        8 => machine::append(
             st,
             value(line, 1),
             value(line, 2),
@@ -143,8 +143,8 @@ fn acted(
             right,
             log,
         ),
-        13 => write::step(st, left, right, log),
-        14 => write::run(st, left, right, log),
+        13 => machine::step(st, left, right, log),
+        14 => machine::run(st, left, right, log),
         15..=20 => answered(slices::call(k, line, left), st),
         27 => answered(slices::set_up(line, left), st),
         28 => answered(slices::set_up(line, right), st),

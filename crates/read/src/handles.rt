@@ -90,7 +90,7 @@ fn lacks_room(n: usize, null: bool, s: Slot) -> bool
 }
 
 // What speaks against a call; `own`: on slot 0. The smallest number is given.
-pub(crate) fn verdict(c: Control, own: bool, s: Slot, h: Handle) -> Verdict
+pub fn verdict(c: Control, own: bool, s: Slot, h: Handle) -> Verdict
     ensures { λ r. ⌜ r ≡ smallest (handleSigns c own s h) ⌝ }
 {
     let p = c.phase;
@@ -127,7 +127,7 @@ fn bit(b: bool) -> u64
 }
 
 // The copy that guard `j` stands on.
-pub(crate) fn guarded_copy<'a>(
+pub fn guarded_copy<'a>(
     g: [Guard; GUARDS],
     j: usize,
     left: &'a [u64],

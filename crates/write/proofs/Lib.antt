@@ -2,7 +2,6 @@
 pub mod Verdicts
 pub mod Cases
 pub mod Control
-pub mod Rows
 pub mod Count
 pub mod Left
 pub mod RunLaws
@@ -15,7 +14,6 @@ pub mod Lent
 pub mod Arms
 pub mod Made
 pub mod Turns
-pub mod Callings
 pub mod Determined
 pub mod Computes
 pub mod Promises

@@ -64,7 +64,7 @@ fn writer_verdict(column: usize, unlawful: bool, full: bool, c: Control, s: Slot
 }
 
 // Step and run look at no slot to be admitted.
-pub(crate) fn step_verdict(column: usize, c: Control) -> Verdict
+pub fn step_verdict(column: usize, c: Control) -> Verdict
     ensures { λ r. ⌜ r ≡ smallest (stepSigns column c) ⌝ }
 {
     let p = c.phase;

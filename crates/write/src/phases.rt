@@ -54,7 +54,7 @@ fn polled(c: Control) -> Phase
 }
 
 // Where slot `k` is polled next.
-pub(crate) fn polling(c: Control, k: usize) -> Phase
+pub fn polling(c: Control, k: usize) -> Phase
     ensures { λ r. ⌜ r ≡ pollingRule c k ⌝ }
 {
     if k < SLOTS {
@@ -112,7 +112,7 @@ fn next_job(j: Job) -> Job
 }
 
 // Where take polls slot `k` next.
-pub(crate) fn last_polling(k: usize) -> Phase
+pub fn last_polling(k: usize) -> Phase
     ensures { λ r. ⌜ r ≡ lastPolling k ⌝ }
 {
     if k < SLOTS {
@@ -142,7 +142,7 @@ pub(crate) fn last_seen(k: usize) -> Phase
 }
 
 // A call of the writer is under way.
-pub(crate) fn underway(c: Control) -> bool
+pub fn underway(c: Control) -> bool
     ensures { λ r. ⌜ r ≡ underwayRule (c .phase) ⌝ }
 {
     let p = c.phase;
@@ -185,7 +185,7 @@ pub(crate) fn standing(p: Phase, job: Job, c: Control) -> Control
 }
 
 // Another phase.
-pub(crate) fn at(p: Phase, c: Control) -> Control
+pub fn at(p: Phase, c: Control) -> Control
     ensures { λ r. ⌜ r ≡ atRule p c ⌝ }
 {
     let job = c.job;

@@ -1,0 +1,219 @@
+// The calls on the machine: each is given the whole state and all three lent slices, trusts none of them, and is refused with
+// nothing changed, or made. `read` and `write` have the parts, for whoever holds a state that is known to be whole.
+mod reads;
+mod runs;
+mod writes;
+
+use read::Handle;
+use read::Reply;
+use read::State;
+use read::Verdict;
+use read::judge;
+use table::Answer;
+use write::Call;
+use write::Opening;
+use write::begins;
+ghost use mathlib.Core.Path.{_≡_};
+ghost use Rattle.read.specs.Calls.{lent, refusal as refusalRule, handleRule, createRule, viewRule, pairRule};
+ghost use Rattle.write.specs.Machine.{callRule};
+
+pub(crate) fn refusal(a: Answer, st: State) -> Reply
+    ensures { λ r. ⌜ r ≡ refusalRule a st ⌝ }
+{
+    Reply {
+        answer: a,
+        value: 0,
+        state: st,
+    }
+}
+
+// ---- on a handle
+
+// Hands out the lowest free slot: a new handle, with epoch 0. The slot's snapshot stays.
+pub fn create(st: State, left: &[u64], right: &[u64], log: &[u64]) -> Reply
+    ensures { λ r. ⌜ r ≡ createRule (now (left .entry)) (now (right .entry)) (now (log .entry)) st ⌝ }
+{
+    let c = st.control;
+    let v = judge::judge(c, left, right, log);
+    match v {
+        Verdict::Refused(a) => refusal(a, st),
+        Verdict::Admitted => {
+            let slots = st.slots;
+            reads::create_reply(reads::first_free(slots), st)
+        }
+    }
+}
+
+// Frees a handle's slot. Its epoch and its snapshot stay.
+pub fn drop<'a>(st: State, slot: usize, left: &'a [u64], right: &'a [u64], log: &[u64]) -> Reply
+    ensures { λ r. ⌜ r ≡ handleRule slot Handle.Drop (now (left .entry)) (now (right .entry)) (now (log .entry)) st ⌝ }
+{
+    reads::on_handle(st, slot, Handle::Drop, left, right, log)
+}
+
+// Announces a reader; with a guard open it loads at once.
+pub fn enter<'a>(st: State, slot: usize, left: &'a [u64], right: &'a [u64], log: &[u64]) -> Reply
+    ensures { λ r. ⌜ r ≡ handleRule slot Handle.Enter (now (left .entry)) (now (right .entry)) (now (log .entry)) st ⌝ }
+{
+    reads::on_handle(st, slot, Handle::Enter, left, right, log)
+}
+
+// The step that an enter left due.
+pub fn go_on<'a>(st: State, slot: usize, left: &'a [u64], right: &'a [u64], log: &[u64]) -> Reply
+    ensures { λ r. ⌜ r ≡ handleRule slot Handle.GoOn (now (left .entry)) (now (right .entry)) (now (log .entry)) st ⌝ }
+{
+    reads::on_handle(st, slot, Handle::GoOn, left, right, log)
+}
+
+// Closes a guard.
+pub fn release<'a>(
+    st: State,
+    slot: usize,
+    guard: usize,
+    left: &'a [u64],
+    right: &'a [u64],
+    log: &[u64],
+) -> Reply
+    ensures { λ r. ⌜ r ≡ handleRule slot (Handle.Release guard) (now (left .entry)) (now (right .entry)) (now (log .entry)) st ⌝ }
+{
+    reads::on_handle(st, slot, Handle::Release(guard), left, right, log)
+}
+
+// The count of a key through a guard, 0 where it is absent: the answer that goes with `pair`, and, key or not, with `view`.
+pub fn look_up<'a>(
+    st: State,
+    slot: usize,
+    guard: usize,
+    key: u64,
+    left: &'a [u64],
+    right: &'a [u64],
+    log: &[u64],
+) -> Reply
+    ensures { λ r. ⌜ r ≡ handleRule slot (Handle.LookUp guard key) (now (left .entry)) (now (right .entry)) (now (log .entry)) st ⌝ }
+{
+    reads::on_handle(st, slot, Handle::LookUp(guard, key), left, right, log)
+}
+
+// Whether the writer has taken the copies away.
+pub fn was_dropped<'a>(
+    st: State,
+    slot: usize,
+    left: &'a [u64],
+    right: &'a [u64],
+    log: &[u64],
+) -> Reply
+    ensures { λ r. ⌜ r ≡ handleRule slot Handle.WasDropped (now (left .entry)) (now (right .entry)) (now (log .entry)) st ⌝ }
+{
+    reads::on_handle(st, slot, Handle::WasDropped, left, right, log)
+}
+
+// The used part of the copy that a guard stands on, uncopied; no words where `look_up` would be refused.
+pub fn view<'a>(
+    st: State,
+    slot: usize,
+    guard: usize,
+    left: &'a [u64],
+    right: &'a [u64],
+    log: &[u64],
+) -> &'a [u64]
+    ensures { λ r. ⌜ now r ≡ viewRule slot guard (now (left .entry)) (now (right .entry)) (now (log .entry)) st ⌝ }
+{
+    table::used(reads::through(st, slot, guard, left, right, log))
+}
+
+// The two words of a key's pair, as a part of the view; none where the key is absent or `look_up` would be refused.
+pub fn pair<'a>(
+    st: State,
+    slot: usize,
+    guard: usize,
+    key: u64,
+    left: &'a [u64],
+    right: &'a [u64],
+    log: &[u64],
+) -> &'a [u64]
+    ensures { λ r. ⌜ now r ≡ pairRule slot guard key (now (left .entry)) (now (right .entry)) (now (log .entry)) st ⌝ }
+{
+    table::look_up(reads::through(st, slot, guard, left, right, log), key)
+}
+
+// ---- the writer's calls that are made at once
+
+// Appends an operation: while `first` it is applied at once to the copy that no reader sees, later it is added to the log.
+// Readers see it after the next publish that swaps.
+pub fn append(
+    st: State,
+    kind: u64,
+    key: u64,
+    amount: u64,
+    left: &mut [u64],
+    right: &mut [u64],
+    log: &mut [u64],
+) -> Reply
+    ensures { λ r. ⌜ lent r (now (left .exit)) (now (right .exit)) (now (log .exit)) ≡ callRule (Call.Append kind key amount) st (now (left .entry)) (now (right .entry)) (now (log .entry)) ⌝ }
+{
+    let c = st.control;
+    let v = judge::judge(c, &left[..], &right[..], &log[..]);
+    match v {
+        Verdict::Admitted => {
+            let snaps = st.snapshots;
+            let m = begins::append_on(
+                kind,
+                key,
+                amount,
+                c,
+                read::slot_at(st, 0),
+                snaps[0],
+                left,
+                right,
+                log,
+            );
+            writes::put_back(0, st, m)
+        }
+        Verdict::Refused(a) => refusal(a, st),
+    }
+}
+
+// Begins a publish. Its steps wait, slot by slot, for the readers that may still stand on the copy that is written.
+pub fn publish(st: State, left: &[u64], right: &[u64], log: &[u64]) -> Reply
+    ensures { λ r. ⌜ lent r (now (left .entry)) (now (right .entry)) (now (log .entry)) ≡ callRule (Call.Open Opening.Publish) st (now (left .entry)) (now (right .entry)) (now (log .entry)) ⌝ }
+{
+    writes::begin(Opening::Publish, st, left, right, log)
+}
+
+// Begins a publish that declines where it would wait.
+pub fn try_publish(st: State, left: &[u64], right: &[u64], log: &[u64]) -> Reply
+    ensures { λ r. ⌜ lent r (now (left .entry)) (now (right .entry)) (now (log .entry)) ≡ callRule (Call.Open Opening.Try) st (now (left .entry)) (now (right .entry)) (now (log .entry)) ⌝ }
+{
+    writes::begin(Opening::Try, st, left, right, log)
+}
+
+// Begins a publish if the log holds operations that readers do not see yet: value 1. Else nothing changes: value 0.
+pub fn flush(st: State, left: &[u64], right: &[u64], log: &[u64]) -> Reply
+    ensures { λ r. ⌜ lent r (now (left .entry)) (now (right .entry)) (now (log .entry)) ≡ callRule (Call.Open Opening.Flush) st (now (left .entry)) (now (right .entry)) (now (log .entry)) ⌝ }
+{
+    writes::begin(Opening::Flush, st, left, right, log)
+}
+
+// Begins a take. Its steps publish what is left, make the pointer null and wait for the readers that are inside; then the writer is
+// gone, and the copy that the pointer named last is handed over.
+pub fn take(st: State, left: &[u64], right: &[u64], log: &[u64]) -> Reply
+    ensures { λ r. ⌜ lent r (now (left .entry)) (now (right .entry)) (now (log .entry)) ≡ callRule (Call.Open Opening.Take) st (now (left .entry)) (now (right .entry)) (now (log .entry)) ⌝ }
+{
+    writes::begin(Opening::Take, st, left, right, log)
+}
+
+// ---- step and run
+
+// One step of the call that is under way. A poll that is held changes nothing, and is made again by the next step.
+pub fn step(st: State, left: &mut [u64], right: &mut [u64], log: &mut [u64]) -> Reply
+    ensures { λ r. ⌜ lent r (now (left .exit)) (now (right .exit)) (now (log .exit)) ≡ callRule Call.Step st (now (left .entry)) (now (right .entry)) (now (log .entry)) ⌝ }
+{
+    writes::go(false, st, left, right, log)
+}
+
+// Steps until the call ends, or a poll is held or declined. The value counts the steps that were made.
+pub fn run(st: State, left: &mut [u64], right: &mut [u64], log: &mut [u64]) -> Reply
+    ensures { λ r. ⌜ lent r (now (left .exit)) (now (right .exit)) (now (log .exit)) ≡ callRule Call.Run st (now (left .entry)) (now (right .entry)) (now (log .entry)) ⌝ }
+{
+    writes::go(true, st, left, right, log)
+}
