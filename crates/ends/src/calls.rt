@@ -133,7 +133,7 @@ fn acted(
     log: &mut [u64],
 ) -> Reply {
     match k {
-        0 | 31 => read::start(left, right, log),
+        0 | 31 => machine::start(left, right, log),
         8 => machine::append(
             st,
             value(line, 1),

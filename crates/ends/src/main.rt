@@ -23,7 +23,7 @@ fn each_line(s: &[u8]) {
     let mut left = [0u64; SPACE];
     let mut right = [0u64; SPACE];
     let mut log = [0u64; SPACE];
-    let r = read::start(&mut left, &mut right, &mut log);
+    let r = machine::start(&mut left, &mut right, &mut log);
     let st = r.state;
     let mut w = calls::whole(st);
     let mut at = 0;

@@ -1,5 +1,6 @@
 // The calls on the machine: each is given the whole state and all three lent slices, trusts none of them, and is refused with
 // nothing changed, or made. `read` and `write` have the parts, for whoever holds a state that is known to be whole.
+mod judge;
 mod reads;
 mod runs;
 mod writes;
@@ -8,13 +9,12 @@ use read::Handle;
 use read::Reply;
 use read::State;
 use read::Verdict;
-use read::judge;
 use table::Answer;
 use write::Call;
 use write::Opening;
 use write::begins;
 ghost use mathlib.Core.Path.{_≡_};
-ghost use Rattle.read.specs.Calls.{lent, refusal as refusalRule, handleRule, createRule, viewRule, pairRule};
+ghost use Rattle.read.specs.Calls.{lent, refusal as refusalRule, startRule, handleRule, createRule, viewRule, pairRule};
 ghost use Rattle.write.specs.Machine.{callRule};
 
 pub(crate) fn refusal(a: Answer, st: State) -> Reply
@@ -22,6 +22,26 @@ pub(crate) fn refusal(a: Answer, st: State) -> Reply
 {
     Reply {
         answer: a,
+        value: 0,
+        state: st,
+    }
+}
+
+// ---- the start
+
+// Zeroes the slices and hands out a fresh state; a wrong length changes nothing.
+pub fn start(left: &mut [u64], right: &mut [u64], log: &mut [u64]) -> Reply
+    ensures { λ r. ⌜ lent r (now (left .exit)) (now (right .exit)) (now (log .exit)) ≡ startRule (now (left .entry)) (now (right .entry)) (now (log .entry)) ⌝ }
+{
+    let st = read::fresh_state();
+    if !judge::sized(&left[..], &right[..], &log[..]) {
+        return refusal(Answer::Length, st);
+    }
+    table::zero(left);
+    table::zero(right);
+    table::zero(log);
+    Reply {
+        answer: Answer::Done,
         value: 0,
         state: st,
     }

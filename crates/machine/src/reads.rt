@@ -1,4 +1,5 @@
 // What a call on a handle, a create and a view do, once the words are judged.
+use crate::judge;
 use crate::refusal;
 use read::Control;
 use read::Handle;
@@ -10,7 +11,6 @@ use read::Verdict;
 use read::admission;
 use read::guards;
 use read::handles;
-use read::judge;
 use read::slot_at;
 use table::Answer;
 ghost use mathlib.Core.Path.{_≡_};

@@ -1,11 +1,11 @@
 // What a call of the writer does, once the words are judged.
+use crate::judge;
 use crate::refusal;
 use crate::runs;
 use read::Reply;
 use read::SLOTS;
 use read::State;
 use read::Verdict;
-use read::judge;
 use write::Call;
 use write::Moved;
 use write::Opening;

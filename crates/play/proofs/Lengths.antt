@@ -3,21 +3,19 @@ use Prim.Native.Nat.{ℕ, zero, suc, _+_, _*_, _/_}
 use mathlib.Core.Path.{_≡_, refl, sym, ap, subst, _∙_}
 use mathlib.Core.List.{List, [], _∷_, _++_}
 use native.Mathlib.Omega.{arith}
-use borrow.Author.Tests.{eq-eqb}
 use lib.ListN.{length, drop, replicate, length-drop}
 use Rattle.table.specs.Copy.{words}
-use Rattle.table.specs.declared.Answer.the-variants as answer
-use Rattle.read.specs.declared.Reply.{Reply}
+use Rattle.read.specs.declared.State.{State}
 use Rattle.read.specs.declared.Verdict.the-variants.{Admitted}
 use Rattle.read.specs.Machine.{logWords, fresh, judged}
-use Rattle.read.specs.Calls.{Lent, lent, startRule}
+use Rattle.read.specs.Calls.{Lent}
 use Rattle.write.specs.declared.Call.{Call}
 use Rattle.write.specs.World.{World, Machine, freshWorld, worldOf, reply, played}
 use Rattle.write.specs.Machine.{callRule}
 use Rattle.write.proofs.NeverBroken.{sound-fresh, sound-judged}
 use Rattle.play.specs.declared.Reached.{Reached}
 use Rattle.play.specs.Schedule.{recordBytes, count, callsFrom, callsIn, callsOf}
-use Rattle.play.specs.Player.{entryBytes, entriesOf, transcript, reached}
+use Rattle.play.specs.Player.{entryBytes, entriesOf, transcript, machine, reached}
 
 calls-length : (s : List ℕ) (at n : ℕ) → length (callsFrom s at n) ≡ n
 calls-length s at zero = refl
@@ -50,18 +48,10 @@ module _ (s : List ℕ) {b : List ℕ} (p : b ≡ drop 5 s) where
       (λ i. (let t = transcript (callsIn (p i)) (e i) in t ++ drop (length t) out))
       ∙ ap (λ (n : ℕ). transcript (callsOf s) freshWorld ++ drop n out) (file-length s freshWorld)
 
--- start on words of the right lengths
-module _ (l r g : List ℕ) (x : length l ≡ words) (y : length r ≡ words) (z : length g ≡ logWords) where
-  start-fresh :
-      startRule l r g
-      ≡ lent (record { answer = answer.Done; value = 0; state = fresh }) (replicate words 0) (replicate words 0) (replicate logWords 0)
-  unfolding startRule
-  start-fresh =
-      rw (eq-eqb (length l) words x, eq-eqb (length r) words y, eq-eqb (length g) logWords z, startRule) (rw (x, y, z))
+-- a fresh machine's own memory is zero
+module _ {st : State} (e : st ≡ fresh) where
+  pub fresh-world : machine st (replicate words 0) (replicate words 0) (replicate logWords 0) ≡ freshWorld
+  fresh-world = ap (λ (st : State). machine st (replicate words 0) (replicate words 0) (replicate logWords 0)) e
 
-  pub started-fresh : {o : Lent Reply} → o ≡ startRule l r g → worldOf o ≡ freshWorld
-  started-fresh e = ap worldOf (e ∙ start-fresh)
-
-  pub started-whole : {o : Lent Reply} → o ≡ startRule l r g → judged (o .made .state .control) (o .left) (o .right) (o .log) ≡ Admitted
-  started-whole e =
-      subst (λ (w : World). judged (w .state .control) (w .left) (w .right) (w .log) ≡ Admitted) (sym (started-fresh e)) (sound-judged sound-fresh)
+  pub fresh-whole : judged (st .control) (replicate words 0) (replicate words 0) (replicate logWords 0) ≡ Admitted
+  fresh-whole = subst (λ (w : World). judged (w .state .control) (w .left) (w .right) (w .log) ≡ Admitted) (sym fresh-world) (sound-judged sound-fresh)

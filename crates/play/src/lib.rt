@@ -135,8 +135,7 @@ pub extern "C" fn lrt_play(schedule: &[u8], out: &mut [u8]) -> Played
     let mut left = [0u64; WORDS];
     let mut right = [0u64; WORDS];
     let mut log = [0u64; LOG_WORDS];
-    let fresh = read::start(&mut left, &mut right, &mut log);
-    let st = fresh.state;
+    let st = read::fresh_state();
     let r = play_on(st, &schedule[HEAD..], out, &mut left, &mut right, &mut log);
     Played {
         answer: 0,

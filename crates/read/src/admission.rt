@@ -4,7 +4,7 @@ use crate::Phase;
 ghost use mathlib.Core.Path.{_≡_};
 ghost use Prim.Native.Nat.{_≤_, _<_};
 ghost use Rattle.read.specs.Admission.{handleNumber, guardNamed, columnBy, entry as entryRule};
-ghost use Rattle.read.specs.Machine.{row as rowRule};
+ghost use Rattle.read.specs.Machine.{row as rowRule, locks as locksRule};
 
 // What the entries say: not now, locked.
 pub const NOT_NOW: u8 = 6;
@@ -97,4 +97,26 @@ pub(crate) fn column(n: usize, own: bool) -> usize
     ensures { λ r. ⌜ r ≡ columnBy n own ⌝ }
 {
     if own { n + 12 } else { n - 1 }
+}
+
+// The lock is held in a publish, and from take's last snapshots to its finish.
+pub fn locks(p: Phase) -> bool
+    ensures { λ r. ⌜ r ≡ locksRule p ⌝ }
+{
+    match p {
+        Phase::Idle => false,
+        Phase::Begin => false,
+        Phase::Poll(_) => true,
+        Phase::Copy => true,
+        Phase::Drain => true,
+        Phase::Keep(_) => true,
+        Phase::Swap => true,
+        Phase::Snap(_) => true,
+        Phase::Null => false,
+        Phase::Lock => false,
+        Phase::LastSnap(_) => true,
+        Phase::LastPoll(_) => true,
+        Phase::Finish => true,
+        Phase::Gone => false,
+    }
 }

@@ -5,7 +5,7 @@ use crate::GUARDS;
 use crate::Guard;
 use crate::Made;
 use crate::Slot;
-use crate::judge;
+use crate::truth;
 use table::Answer;
 ghost use mathlib.Core.Path.{_≡_};
 ghost use Rattle.read.specs.Machine.{shut as shutRule, openOn, isOpen, putGuard, firstGuard, anyOpen, allOpen, isDue, isLoad, noSlot, withReading, newSlot, noGuards};
@@ -18,7 +18,7 @@ pub(crate) fn first_guard(want: bool, g: [Guard; GUARDS]) -> usize
     let mut j = 0;
     while j < GUARDS {
         let x = g[j];
-        if judge::same(want, x.opened) {
+        if truth::same(want, x.opened) {
             return j;
         }
         j += 1;

@@ -9,7 +9,7 @@ use crate::Slot;
 use crate::Verdict;
 use crate::admission;
 use crate::guards;
-use crate::judge;
+use crate::truth;
 use table::Answer;
 ghost use mathlib.Core.Path.{_≡_};
 ghost use mathlib.Core.Bool.{not, _&&_};
@@ -56,7 +56,7 @@ fn leaves_guards(n: usize, g: [Guard; GUARDS]) -> bool
 fn lacks_guard(n: usize, j: usize, g: [Guard; GUARDS]) -> bool
     ensures { λ r. ⌜ r ≡ lacksGuard n j g ⌝ }
 {
-    if judge::either(n == RELEASE, n == LOOK_UP) {
+    if truth::either(n == RELEASE, n == LOOK_UP) {
         return !guards::is_open(g, j);
     }
     false
@@ -102,7 +102,7 @@ pub fn verdict(c: Control, own: bool, s: Slot, h: Handle) -> Verdict
     if !s.used {
         return Verdict::Refused(Answer::NoSlot);
     }
-    if judge::either(e == admission::NOT_NOW, mistimed(n, d)) {
+    if truth::either(e == admission::NOT_NOW, mistimed(n, d)) {
         return Verdict::Refused(Answer::NotNow);
     }
     if e == admission::LOCKED {

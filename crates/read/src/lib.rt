@@ -1,15 +1,15 @@
-// The reader's side: the state and what every call is judged on, handles with their epochs and guards, and what a guard shows.
+// The reader's side: the state, handles with their epochs and guards, and what a guard shows.
 // A call stands on the control part and one slot, by value, for whoever holds a state that is known to be whole; `machine` has the calls
 // that are given a whole state.
 pub mod admission;
 pub mod guards;
 pub mod handles;
-pub mod judge;
+pub mod truth;
 
 use table::Answer;
 ghost use mathlib.Core.Path.{_≡_};
 ghost use Rattle.read.specs.Machine.{fresh};
-ghost use Rattle.read.specs.Calls.{slotAt, refusal as refusalOf, lent, startRule};
+ghost use Rattle.read.specs.Calls.{slotAt};
 
 // How many slots there are, how many guards a handle has, how many operations the log has room for, and its words, three each.
 pub const SLOTS: usize = 16;
@@ -116,7 +116,7 @@ pub struct Reply {
 }
 
 // The fresh machine: slot 0 is the writer's own handle, and the pointer is on the left.
-fn fresh_state() -> State
+pub fn fresh_state() -> State
     ensures { λ r. ⌜ r ≡ fresh ⌝ }
 {
     let control = Control {
@@ -138,34 +138,6 @@ fn fresh_state() -> State
         control: control,
         slots: slots,
         snapshots: [0u64; SLOTS],
-    }
-}
-
-fn refusal(a: Answer, st: State) -> Reply
-    ensures { λ r. ⌜ r ≡ refusalOf a st ⌝ }
-{
-    Reply {
-        answer: a,
-        value: 0,
-        state: st,
-    }
-}
-
-// Zeroes the slices and hands out a fresh state; a wrong length changes nothing.
-pub fn start(left: &mut [u64], right: &mut [u64], log: &mut [u64]) -> Reply
-    ensures { λ r. ⌜ lent r (now (left .exit)) (now (right .exit)) (now (log .exit)) ≡ startRule (now (left .entry)) (now (right .entry)) (now (log .entry)) ⌝ }
-{
-    let st = fresh_state();
-    if !judge::sized(&left[..], &right[..], &log[..]) {
-        return refusal(Answer::Length, st);
-    }
-    table::zero(left);
-    table::zero(right);
-    table::zero(log);
-    Reply {
-        answer: Answer::Done,
-        value: 0,
-        state: st,
     }
 }
 

@@ -12,7 +12,7 @@ use read::Slot;
 use read::Verdict;
 use read::admission;
 use read::guards;
-use read::judge;
+use read::truth;
 use table::Answer;
 ghost use mathlib.Core.Path.{_≡_};
 ghost use mathlib.Core.Bool.{true, not, _&&_, _||_};
@@ -48,7 +48,7 @@ fn writer_verdict(column: usize, unlawful: bool, full: bool, c: Control, s: Slot
     if unlawful {
         return Verdict::Refused(Answer::Operation);
     }
-    if judge::either(
+    if truth::either(
         admission::entry(p, column) == admission::NOT_NOW,
         guards::is_due(d),
     ) {
@@ -181,7 +181,7 @@ fn begun(c: Control) -> Control
 fn taking(c: Control) -> Phase
     ensures { λ r. ⌜ r ≡ takingRule c ⌝ }
 {
-    if judge::either(c.first, 0 < c.length) {
+    if truth::either(c.first, 0 < c.length) {
         return Phase::Begin;
     }
     Phase::Null

@@ -3,7 +3,7 @@ use read::Control;
 use read::Job;
 use read::Phase;
 use read::SLOTS;
-use read::judge;
+use read::admission;
 ghost use mathlib.Core.Path.{_≡_};
 ghost use Prim.Native.Nat.{_+_, _-_};
 ghost use Rattle.read.specs.Machine.{standing as standingRule, underway as underwayRule};
@@ -170,7 +170,7 @@ pub fn underway(c: Control) -> bool
 pub(crate) fn standing(p: Phase, job: Job, c: Control) -> Control
     ensures { λ r. ⌜ r ≡ standingRule p job c ⌝ }
 {
-    let lock = judge::locks(p);
+    let lock = admission::locks(p);
     Control {
         right: c.right,
         null: c.null,

@@ -3,14 +3,12 @@ use Prim.Native.Nat.{ℕ, _≤_}
 use mathlib.Core.Path.{_≡_, sym, ap, _∙_}
 use mathlib.Core.List.{List}
 use native.Mathlib.Omega.{arith}
-use lib.ListN.{length, drop, replicate, length-replicate}
-use Rattle.table.specs.Copy.{words}
-use Rattle.read.specs.Machine.{logWords}
+use lib.ListN.{length, drop}
 use Rattle.write.specs.World.{World}
 use Rattle.play.specs.declared.Flaw.{Flaw}
 use Rattle.play.specs.Schedule.{callsIn}
 use Rattle.play.specs.Player.{transcript, flawOf}
-use Rattle.play.proofs.Lengths.{part-length, part-written, part-bytes, started-fresh, started-whole}
+use Rattle.play.proofs.Lengths.{part-length, part-written, part-bytes, fresh-world, fresh-whole}
 use Rattle.play.proofs.Records.{flawless-within}
 use Rattle.play.proofs.Rule.{play-flawed, play-short, play-made}
 use borrow.Author.Needs.{needs}
@@ -23,12 +21,8 @@ sound : (c : tie.Else1) → flawOf (c .before .before .before .before .before .a
 sound c = ap (λ (f : Flaw). f .answer) (sym (c .before .before .check .ensures)) ∙ c .if1 .left
 
 -- so it has its head
-long : (t : tie.After-st) → 5 ≤ length (t .before .before .before .before .before .before .before .before .before .before .before .before .before .before .before .args .schedule .now)
-long t = omega (arith, flawless-within (t .before .before .before .before .before .before .before .before .before .before .before .before .before .before .before .args .schedule .now) (sound (t .before .before .before .before .before .before .before .before .before .before)))
-
--- the machine's own memory has the lengths that it asks
-abbrev zero : (n : ℕ) → length (replicate {A = ℕ} n 0) ≡ n
-zero n = length-replicate {A = ℕ} n 0
+long : (t : tie.After-fresh-state) → 5 ≤ length (t .before .before .before .before .before .before .before .before .args .schedule .now)
+long t = omega (arith, flawless-within (t .before .before .before .before .before .before .before .before .args .schedule .now) (sound (t .before .before .before)))
 
 returns : tie.Need-returns
 returns c =
@@ -49,24 +43,21 @@ part-play-on-start c = long c
 play-on-requires : tie.Need-play-on-requires
 play-on-requires c κs =
     let t = c .before .before .before .before .before in
-    let a = t .before .before .before .before .before .before .before .before .before .before .before .before .before .before .before .args in
+    let a = t .before .before .before .before .before .before .before .before .args in
     let s = a .schedule .now in
     let fit : (b : List ℕ) → b ≡ drop 5 s → (w : World) → length (transcript (callsIn b) w) ≤ length (a .out .now) =
-    λ b p w. omega (arith, part-length s p w, t .before .before .before .before .before .before .before .before .if2 .left, t .before .before .before .before .before .before .before .before .before .count .ensures) in
-    let e = t .before .before .before .before .start .ensures in (
-      started-whole _ _ _ (zero words) (zero words) (zero logWords) e,
-      fit _ (part-to-end s 5) _,
-    )
+    λ b p w. omega (arith, part-length s p w, t .before .if2 .left, t .before .before .count .ensures) in
+    (fresh-whole (t .fresh-state .ensures), fit _ (part-to-end s 5) _)
 
 returns-3 : tie.Need-returns-3
 returns-3 c =
     let p = c .before .before .before .before .before .play-on in
     let t = c .before .before .before .before .before .before .before .before .before .before .before in
-    let a = t .before .before .before .before .before .before .before .before .before .before .before .before .before .before .before .args in
+    let a = t .before .before .before .before .before .before .before .before .args in
     let s = a .schedule .now in
-    let w = started-fresh _ _ _ (zero words) (zero words) (zero logWords) (t .before .before .before .before .start .ensures) in
-    play-made s (a .out .now) (sound (t .before .before .before .before .before .before .before .before .before .before)) (part-written s (part-to-end s 5) _ (p .ensures .0))
-    (omega (arith, t .before .before .before .before .before .before .before .before .if2 .left, t .before .before .before .before .before .before .before .before .before .count .ensures))
+    let w = fresh-world (t .fresh-state .ensures) in
+    play-made s (a .out .now) (sound (t .before .before .before)) (part-written s (part-to-end s 5) _ (p .ensures .0))
+    (omega (arith, t .before .if2 .left, t .before .before .count .ensures))
     (p .ensures .1 ∙ part-bytes s (part-to-end s 5) (a .out .now) w)
 
 pub lrt-play-spec : {M : Type 1} → statement M
@@ -78,9 +69,6 @@ lrt-play-spec =
     (λ c κs. search needs)
     (λ c. search needs)
     returns-2
-    (λ c. search needs)
-    (λ c. search needs)
-    (λ c. search needs)
     (λ c κs. search needs)
     sub-play-on
     part-play-on-start

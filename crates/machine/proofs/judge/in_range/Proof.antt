@@ -1,9 +1,9 @@
 -- Each answer is the rule's at the phase that the match found.
 use mathlib.Core.Path.{sym, ap}
 use borrow.Author.Needs.{needs}
 use Rattle.read.specs.Machine.{slotCount, inRange}
-use Rattle.read.proofs.judge.in_range.Statement.{statement}
-use Rattle.read.proofs.judge.in_range.Tie as tie
+use Rattle.machine.proofs.judge.in_range.Statement.{statement}
+use Rattle.machine.proofs.judge.in_range.Tie as tie
 
 returns : tie.Need-returns
 returns c = sym (ap (inRange (c .before .before .args .c)) (c .enum-told .given .1))

@@ -1,9 +1,9 @@
 -- The glance first, and then the log.
 use mathlib.Core.Path.{sym, _∙_}
 use borrow.Author.Needs.{needs}
 use Rattle.read.proofs.Cases.{glanced-room, judged-refused, judged-broken, judged-whole}
-use Rattle.read.proofs.judge.judge.Statement.{statement}
-use Rattle.read.proofs.judge.judge.Tie as tie
+use Rattle.machine.proofs.judge.judge.Statement.{statement}
+use Rattle.machine.proofs.judge.judge.Tie as tie
 
 enum-told : tie.Need-enum-told
 enum-told c = search needs

@@ -6,9 +6,9 @@ use borrow.Author.Tests.{not-true, not-false}
 use borrow.Author.Needs.{needs}
 use lib.Dec.{leb}
 use Rattle.table.specs.Copy.{pairs, entries}
 use Rattle.read.proofs.Cases.{sized-lengths, glanced-length, glanced-broken, glanced-whole}
-use Rattle.read.proofs.judge.glance.Statement.{statement}
-use Rattle.read.proofs.judge.glance.Tie as tie
+use Rattle.machine.proofs.judge.glance.Statement.{statement}
+use Rattle.machine.proofs.judge.glance.Tie as tie
 
 returns : tie.Need-returns
 returns c =

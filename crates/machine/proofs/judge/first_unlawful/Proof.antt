@@ -6,9 +6,9 @@ use mathlib.Core.List.{List}
 use borrow.Author.Needs.{needs}
 use Rattle.table.specs.Seek.{seek}
 use Rattle.table.proofs.Seek.{seek-here, seek-next, seek-end}
 use Rattle.read.specs.Machine.{lawfulAt, firstUnlawful}
-use Rattle.read.proofs.judge.first_unlawful.Statement.{statement}
-use Rattle.read.proofs.judge.first_unlawful.Tie as tie
+use Rattle.machine.proofs.judge.first_unlawful.Statement.{statement}
+use Rattle.machine.proofs.judge.first_unlawful.Tie as tie
 
 abbrev test : List ℕ → ℕ → Bool
 test g i = not (lawfulAt g i)

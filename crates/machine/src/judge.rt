@@ -1,49 +1,29 @@
-// What every call is judged on, and which refusal is given.
-use crate::Control;
-use crate::LOG_ROOM;
-use crate::LOG_WORDS;
-use crate::Phase;
-use crate::SLOTS;
-use crate::Verdict;
+// What every call is judged on: lengths, entry counts, the control part and the log.
+use read::Control;
+use read::LOG_ROOM;
+use read::LOG_WORDS;
+use read::Phase;
+use read::SLOTS;
+use read::Verdict;
+use read::admission::locks;
+use read::truth::same;
 use table::Answer;
 ghost use mathlib.Core.Path.{_≡_};
-ghost use mathlib.Core.Bool.{_&&_, _||_};
+ghost use mathlib.Core.Bool.{_&&_};
 ghost use Prim.Native.Nat.{_≤_, _*_};
 ghost use lib.ListN.{length};
-ghost use Rattle.read.specs.Machine.{same as sameRule, locks as locksRule, nulls as nullsRule, isGone, underway as underwayRule, inRange, lawfulAt, firstUnlawful, sized as sizedRule, wholeControl, glanced, judged};
+ghost use Rattle.read.specs.Machine.{same as sameRule, nulls as nullsRule, inRange, firstUnlawful, sized as sizedRule, wholeControl, glanced, judged};
 
 const MOST: u64 = table::PAIRS as u64;
 
-pub fn either(a: bool, b: bool) -> bool
-    ensures { λ r. ⌜ r ≡ (a || b) ⌝ }
+fn both(a: bool, b: bool) -> bool
+    ensures { λ r. ⌜ r ≡ (a && b) ⌝ }
 {
-    if a { true } else { b }
-}
-
-// The lock is held in a publish, and from take's last snapshots to its finish.
-pub fn locks(p: Phase) -> bool
-    ensures { λ r. ⌜ r ≡ locksRule p ⌝ }
-{
-    match p {
-        Phase::Idle => false,
-        Phase::Begin => false,
-        Phase::Poll(_) => true,
-        Phase::Copy => true,
-        Phase::Drain => true,
-        Phase::Keep(_) => true,
-        Phase::Swap => true,
-        Phase::Snap(_) => true,
-        Phase::Null => false,
-        Phase::Lock => false,
-        Phase::LastSnap(_) => true,
-        Phase::LastPoll(_) => true,
-        Phase::Finish => true,
-        Phase::Gone => false,
-    }
+    if a { b } else { false }
 }
 
 // The pointer is null from take's lock step on.
-pub(crate) fn nulls(p: Phase) -> bool
+fn nulls(p: Phase) -> bool
     ensures { λ r. ⌜ r ≡ nullsRule p ⌝ }
 {
     match p {
@@ -87,18 +67,6 @@ fn in_range(c: Control) -> bool
     }
 }
 
-pub(crate) fn same(a: bool, b: bool) -> bool
-    ensures { λ r. ⌜ r ≡ sameRule a b ⌝ }
-{
-    if a { b } else { !b }
-}
-
-fn both(a: bool, b: bool) -> bool
-    ensures { λ r. ⌜ r ≡ (a && b) ⌝ }
-{
-    if a { b } else { false }
-}
-
 // The control part by itself: counts, position, lock and pointer.
 fn whole_control(c: Control) -> bool
     ensures { λ r. ⌜ r ≡ wholeControl c ⌝ }
@@ -136,7 +104,7 @@ pub(crate) fn sized(left: &[u64], right: &[u64], log: &[u64]) -> bool
 }
 
 // Lengths, entry counts and the control part: all but the walk over the log.
-pub(crate) fn glance(c: Control, left: &[u64], right: &[u64], log: &[u64]) -> Verdict
+fn glance(c: Control, left: &[u64], right: &[u64], log: &[u64]) -> Verdict
     ensures { λ r. ⌜ r ≡ glanced c (now (left .entry)) (now (right .entry)) (now (log .entry)) ⌝ }
 {
     if !sized(left, right, log) {
@@ -149,7 +117,7 @@ pub(crate) fn glance(c: Control, left: &[u64], right: &[u64], log: &[u64]) -> Ve
 }
 
 // What every call on the machine is judged on.
-pub fn judge(c: Control, left: &[u64], right: &[u64], log: &[u64]) -> Verdict
+pub(crate) fn judge(c: Control, left: &[u64], right: &[u64], log: &[u64]) -> Verdict
     ensures { λ r. ⌜ r ≡ judged c (now (left .entry)) (now (right .entry)) (now (log .entry)) ⌝ }
 {
     let v = glance(c, left, right, log);

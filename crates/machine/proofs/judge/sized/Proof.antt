@@ -1,7 +1,7 @@
 -- The three tests, in the rule's order.
 use borrow.Author.Needs.{needs}
-use Rattle.read.proofs.judge.sized.Statement.{statement}
-use Rattle.read.proofs.judge.sized.Tie as tie
+use Rattle.machine.proofs.judge.sized.Statement.{statement}
+use Rattle.machine.proofs.judge.sized.Tie as tie
 
 returns : tie.Need-returns
 returns c = rw (c .both2 .ensures, c .before .both .ensures)

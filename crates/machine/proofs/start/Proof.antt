@@ -2,9 +2,9 @@
 use mathlib.Core.Path.{sym, _∙_}
 use borrow.Author.Tests.{not-true, not-false}
 use borrow.Author.Needs.{needs}
 use Rattle.read.proofs.Cases.{start-refused, start-made}
-use Rattle.read.proofs.start.Statement.{statement}
-use Rattle.read.proofs.start.Tie as tie
+use Rattle.machine.proofs.start.Statement.{statement}
+use Rattle.machine.proofs.start.Tie as tie
 
 returns : tie.Need-returns
 returns c =

@@ -1,7 +1,7 @@
 -- The tests, in the rule's order.
 use borrow.Author.Needs.{needs}
-use Rattle.read.proofs.judge.whole_control.Statement.{statement}
-use Rattle.read.proofs.judge.whole_control.Tie as tie
+use Rattle.machine.proofs.judge.whole_control.Statement.{statement}
+use Rattle.machine.proofs.judge.whole_control.Tie as tie
 
 returns : tie.Need-returns
 returns c = rw (c .both4 .ensures, c .before .both3 .ensures, c .before .before .both2 .ensures, c .before .before .before .in-range .ensures, c .before .before .before .before .before .before .both .ensures, c .before .before .before .before .before .before .before .same2 .ensures, c .before .before .before .before .before .before .before .before .nulls .ensures, c .before .before .before .before .before .before .before .before .before .same .ensures, c .before .before .before .before .before .before .before .before .before .before .locks .ensures)
