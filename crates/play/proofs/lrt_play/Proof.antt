@@ -7,11 +7,12 @@ use lib.ListN.{length, drop, replicate, length-replicate}
 use Rattle.table.specs.Copy.{words}
 use Rattle.read.specs.Machine.{logWords}
 use Rattle.write.specs.World.{World}
-use Rattle.play.specs.declared.Flaw.{Flaw}
+use Rattle.format.specs.declared.Flaw.{Flaw}
+use Rattle.format.specs.Schedule.{flawOf}
 use Rattle.play.specs.Schedule.{callsIn}
-use Rattle.play.specs.Player.{transcript, flawOf}
+use Rattle.play.specs.Player.{transcript}
 use Rattle.play.proofs.Lengths.{part-length, part-written, part-bytes, started-fresh, started-whole}
-use Rattle.play.proofs.Records.{flawless-within}
+use Rattle.format.proofs.Records.{flawless-within}
 use Rattle.play.proofs.Rule.{play-flawed, play-short, play-made}
 use borrow.Author.Needs.{needs}
 use borrow.Rule.Slice.PartAt.{part-to-end}
