@@ -126,7 +126,7 @@ fn write(schedule: &[u8], transcript: &[u8], is_show: bool) -> bool {
 fn run(schedule: &[u8], out: &mut [u8], name: &[u8], is_show: bool) -> u8 {
     let played = play::lrt_play(schedule, out);
     if played.answer != 0 {
-        let flaw = play::schedule::check(schedule);
+        let flaw = format::check(schedule);
         refuse(name, played.answer, flaw.place);
         return REFUSED;
     }

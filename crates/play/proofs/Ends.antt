@@ -4,7 +4,7 @@ use mathlib.Core.Path.{_≡_, refl}
 use mathlib.Core.List.{List, [], _∷_, _++_, map}
 use lib.ListN.{replicate}
 use Rattle.read.specs.Machine.{slotTotal}
-use Rattle.play.specs.Schedule.{bytesOf}
+use Rattle.format.specs.Schedule.{bytesOf}
 use Rattle.play.specs.Player.{refusalOf, output, playRule}
 use Rattle.play.proofs.Computes.{rules}
 

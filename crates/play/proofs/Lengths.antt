@@ -14,8 +14,10 @@ use Rattle.write.specs.World.{World, Machine, freshWorld, worldOf, reply, playe
 use Rattle.write.specs.Machine.{callRule}
 use Rattle.write.proofs.NeverBroken.{sound-fresh, sound-judged}
 use Rattle.play.specs.declared.Reached.{Reached}
-use Rattle.play.specs.Schedule.{recordBytes, count, callsFrom, callsIn, callsOf}
-use Rattle.play.specs.Player.{entryBytes, entriesOf, transcript, machine, reached}
+use Rattle.format.specs.Schedule.{recordBytes, count}
+use Rattle.format.specs.Transcript.{entryBytes, entriesOf}
+use Rattle.play.specs.Schedule.{callsFrom, callsIn, callsOf}
+use Rattle.play.specs.Player.{transcript, machine, reached}
 
 calls-length : (s : List ℕ) (at n : ℕ) → length (callsFrom s at n) ≡ n
 calls-length s at zero = refl

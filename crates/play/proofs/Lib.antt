@@ -1,6 +1,5 @@
 -- The laws of the player.
-pub mod Numbers
-pub mod Records
+pub mod Calls
 pub mod Lengths
 pub mod Rule
 pub mod Refusals

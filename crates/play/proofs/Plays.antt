@@ -23,8 +23,10 @@ use Rattle.write.proofs.Judged.{judged-good}
 use Rattle.write.proofs.NeverBroken.{Sound, call-made, sound-call}
 use Rattle.play.specs.declared.turns.Far.{Far}
 use Rattle.play.specs.declared.Reached.{Reached}
-use Rattle.play.specs.Schedule.{recordBytes, decoded, callsFrom, callsIn}
-use Rattle.play.specs.Player.{entryBytes, entryOf, entriesOf, transcript, machine}
+use Rattle.format.specs.Schedule.{recordBytes}
+use Rattle.format.specs.Transcript.{entryBytes, entryOf, entriesOf}
+use Rattle.play.specs.Schedule.{decoded, callsFrom, callsIn}
+use Rattle.play.specs.Player.{transcript, machine}
 use Rattle.play.specs.Turns.{turnOn, over}
 use Rattle.play.proofs.Turned.{sought, within, putSlot, turn-made}
 use Rattle.play.proofs.Going.{Said, said}

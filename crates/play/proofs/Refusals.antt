@@ -12,12 +12,13 @@ use Rattle.table.proofs.Seek.{seek-before, seek-found}
 use Rattle.table.proofs.Split.{split, under}
 use Rattle.read.proofs.Tests.{and-left, and-right}
 use Rattle.write.specs.World.{freshWorld}
-use Rattle.play.specs.declared.Flaw.{Flaw}
-use Rattle.play.specs.Schedule.{count, startOf, marked, versionOf, unknownAt, firstUnknown, callsOf}
-use Rattle.play.specs.Player.{transcript, flaw, flawOf, output, playRule}
+use Rattle.format.specs.declared.Flaw.{Flaw}
+use Rattle.format.specs.Schedule.{count, startOf, marked, versionOf, unknownAt, firstUnknown, flaw, flawOf}
+use Rattle.play.specs.Schedule.{callsOf}
+use Rattle.play.specs.Player.{transcript, output, playRule}
 use Rattle.play.specs.Refusals.{Applies, short, unmarked, version, torn, unknown, crowded, Outcome, Refusals}
 use Rattle.play.proofs.Lengths.{file-length}
-use Rattle.play.proofs.Records.{marked-long, marked-third, unknown-not, flaw-unmarked, flaw-version, flaw-torn, flaw-unknown, flaw-none}
+use Rattle.format.proofs.Records.{marked-long, marked-third, unknown-not, flaw-unmarked, flaw-version, flaw-torn, flaw-unknown, flaw-none}
 use Rattle.play.proofs.Rule.{play-flawed, play-short, play-made}
 
 -- ---- the tests, on the file's bytes

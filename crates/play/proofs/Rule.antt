@@ -7,8 +7,10 @@ use borrow.Author.Tests.{le-leb, lt-leb, eq-eqb, ne-eqb, eqb-false}
 use lib.Dec.{eqb, leb}
 use lib.ListN.{length, drop}
 use Rattle.write.specs.World.{freshWorld}
-use Rattle.play.specs.Schedule.{count, callsOf}
-use Rattle.play.specs.Player.{entryBytes, transcript, flawOf, refusalOf, Output, output, playRule}
+use Rattle.format.specs.Schedule.{count, flawOf}
+use Rattle.format.specs.Transcript.{entryBytes}
+use Rattle.play.specs.Schedule.{callsOf}
+use Rattle.play.specs.Player.{transcript, refusalOf, Output, output, playRule}
 
 module _ (s out : List ℕ) where
   abbrev answered : Bool → Bool → ℕ

@@ -6,7 +6,7 @@ use mathlib.Core.Bool.{true, false}
 use mathlib.Core.List.{List, [], _∷_, _++_}
 use native.Mathlib.Omega.{arith}
 use borrow.Author.Tests.{eqb-false}
-use lib.Dec.{eqb, ltb, leb}
+use lib.Dec.{eqb, leb}
 use lib.ListN.{length, getD, take, drop, set, replicate}
 use Rattle.table.proofs.Computes.{apart}
 use Rattle.table.proofs.Contracts.{Bytes, slice}
@@ -16,13 +16,16 @@ use Rattle.write.specs.declared.Call.{Call}
 use Rattle.write.specs.declared.Call.the-variants.{Create, On, Append, Open, Step, Run}
 use Rattle.write.specs.Machine.{callRule}
 use Rattle.write.specs.World.{Machine, freshWorld, played}
-use Rattle.play.specs.declared.Flaw.{Flaw}
-use Rattle.play.specs.Schedule.{numberAt, bytesOf, headBytes, recordBytes, count, marked, versionOf, torn, firstUnknown, fieldsAt, callOf, decoded, callsFrom}
-use Rattle.play.specs.Player.{entryBytes, entryOf, entriesOf, transcript, flaw, flawOf, refusalOf, Output, output, playRule}
+use Rattle.format.specs.declared.Flaw.{Flaw}
+use Rattle.format.specs.Schedule.{numberAt, bytesOf, headBytes, recordBytes, count, fieldsAt, flawOf}
+use Rattle.format.specs.Transcript.{entryBytes, entryOf, entriesOf}
+use Rattle.format.proofs.Wrong.{unknownFirst}
+use Rattle.play.specs.Schedule.{callOf, decoded, callsFrom}
+use Rattle.play.specs.Player.{transcript, refusalOf, Output, output, playRule}
 use Rattle.play.specs.Refusals.{Player, Applies, Refusals}
 use Rattle.play.proofs.Computes.{rules}
 use Rattle.play.proofs.Ends.{head, recordOf, p1}
-use Rattle.play.proofs.Promises.{CountPromise, CheckPromise, PlayPromise}
+use Rattle.play.proofs.Promises.{PlayPromise}
 
 -- ---- what the witnesses are made of
 
@@ -55,9 +58,6 @@ answered o = o .result .answer
 
 abbrev reported : Output → ℕ
 reported o = o .result .written
-
-abbrev itself : ℕ → ℕ
-itself n = n
 
 -- ---- a player by its parts
 
@@ -149,17 +149,6 @@ unfolding rules
 cutTo32-wrong h = apart (byte 59) refl (h large room refl)
 
 -- ---- 24 is found before 23
-
-abbrev unknownFirst : List ℕ → Flaw
-unknownFirst s =
-    let n = count s in
-    let i = firstUnknown s n in
-    elim (marked s) [
-      | true ↦
-          elim (eqb (versionOf s) 1)
-          [ true ↦ elim (ltb i n) [ true ↦ flaw 24 i | false ↦ elim (torn s) [ true ↦ flaw 23 n | false ↦ flaw 0 n ] ] | false ↦ flaw 22 0 ]
-      | false ↦ flaw 21 0
-    ]
 
 unknownFirst-wrong : PlayPromise (playBy unknownFirst decoded callRule entryBytes entryOf) → ⊥
 unfolding rules
@@ -257,30 +246,3 @@ unknownFirst-refusals-wrong h =
     let t : Applies s [] 23 = Applies.torn (λ n e. let d : 26 ≡ 5 + 20 * n = e in omega arith) in
     let l : 24 ≤ 23 = h s [] .1 (eqb-false 24 0 refl) .smallest 23 t in
     omega arith
-
--- ---- the public parts
-
--- the records are counted with the head, or with the torn one
-abbrev withHead : List ℕ → ℕ
-withHead s = length s / recordBytes
-
-withHead-wrong : CountPromise withHead → ⊥
-withHead-wrong h = apart itself refl (h (slice (replicate 20 0) refl) refl)
-
-abbrev withTorn : List ℕ → ℕ
-withTorn s = elim (torn s) [ true ↦ suc (count s) | false ↦ count s ]
-
-withTorn-wrong : CountPromise withTorn → ⊥
-withTorn-wrong h = apart itself refl (h unknownTorn refl)
-
--- 24 is found before 23, or the record behind the unknown one is named
-unknownFirst-check-wrong : CheckPromise unknownFirst → ⊥
-unfolding rules
-unknownFirst-check-wrong h = apart (λ f. f .answer) refl (h unknownTorn refl)
-
-abbrev namesNext : List ℕ → Flaw
-namesNext s = let f = flawOf s in elim (eqb (f .answer) 24) [ true ↦ flaw 24 (suc (f .place)) | false ↦ f ]
-
-namesNext-wrong : CheckPromise namesNext → ⊥
-unfolding rules
-namesNext-wrong h = apart (λ f. f .place) refl (h unknown refl)

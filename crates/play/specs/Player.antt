@@ -1,9 +1,9 @@
 -- The player: the transcript of a schedule's calls from a fresh machine.
 use Prim.Native.Nat.{ℕ, _*_, _/_}
 use mathlib.Core.Bool.{true, false}
-use mathlib.Core.List.{List, [], _∷_, _++_}
+use mathlib.Core.List.{List, _++_}
 use lib.ListN.{length, drop}
-use lib.Dec.{eqb, ltb, leb}
+use lib.Dec.{eqb, leb}
 use Rattle.read.specs.declared.State.{State}
 use Rattle.read.specs.Calls.{Lent, lent}
 use Rattle.write.specs.declared.Call.{Call}
@@ -11,24 +11,11 @@ use Rattle.write.specs.Machine.{callRule}
 use Rattle.write.specs.World.{World, freshWorld, played}
 use Rattle.play.specs.declared.Reached.{Reached}
 use Rattle.play.specs.declared.Played.{Played}
-use Rattle.play.specs.declared.Flaw.{Flaw}
-use Rattle.play.specs.Schedule.{bytesOf, recordBytes, count, marked, versionOf, torn, firstUnknown, callsIn, callsOf}
+use Rattle.format.specs.Schedule.{recordBytes, count, flawOf}
+use Rattle.format.specs.Transcript.{entryBytes, entriesOf}
+use Rattle.play.specs.Schedule.{callsIn, callsOf}
 
 -- ---- the transcript
-
--- how many bytes a record's entry has
-abbrev pub entryBytes : ℕ
-entryBytes = 9
-
--- the answer, and the value in eight bytes
-abbrev pub entryOf : ℕ → ℕ → List ℕ
-entryOf a v = a ∷ bytesOf 8 v
-
--- the entries of answers and values, which come in turn
-unfoldable pub entriesOf : List ℕ → List ℕ
-entriesOf [] = []
-entriesOf (a ∷ []) = []
-entriesOf (a ∷ v ∷ rest) = entryOf a v ++ entriesOf rest
 
 -- what the calls say, one after the other, each judged on the whole machine
 abbrev pub transcript : List Call → World → List ℕ
@@ -49,27 +36,7 @@ reached s w =
 
 -- ---- what refuses a file
 
-abbrev pub flaw : ℕ → ℕ → Flaw
-flaw a i = record { answer = a; place = i }
-
--- 21 the mark, or shorter than five bytes; 22 the version; 23 a torn record; 24 a call not 1 to 14; 0 where nothing is wrong. With it
--- the record at which it was found
-unfoldable pub flawOf : List ℕ → Flaw
-flawOf s =
-    let n = count s in
-    let i = firstUnknown s n in
-    elim (marked s) [
-      | true ↦
-          elim (eqb (versionOf s) 1) [
-            | true ↦
-                elim (torn s)
-                [ true ↦ flaw 23 n | false ↦ elim (ltb i n) [ true ↦ flaw 24 i | false ↦ flaw 0 n ] ]
-            | false ↦ flaw 22 0
-          ]
-      | false ↦ flaw 21 0
-    ]
-
--- and 25 where the output, of m bytes, is too short
+-- what is wrong with it, and 25 where the output, of m bytes, is too short
 abbrev pub refusalOf : List ℕ → ℕ → ℕ
 refusalOf s m =
     elim (eqb (flawOf s .answer) 0)

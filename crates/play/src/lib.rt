@@ -1,13 +1,13 @@
 // The player: a schedule of calls in, the transcript of their answers out. The machine's memory is its own.
-pub mod schedule;
-mod transcript;
+mod schedule;
 mod turns;
 
+use format::ENTRY;
+use format::HEAD;
+use format::RECORD;
 use read::LOG_WORDS;
 use read::SLOTS;
 use read::State;
-use schedule::HEAD;
-use schedule::RECORD;
 use table::WORDS;
 use write::steps;
 ghost use mathlib.Core.Path.{_≡_};
@@ -26,15 +26,6 @@ pub struct Played {
     pub answer: u64,
     pub written: usize,
 }
-
-// What is wrong with a schedule, and the record at which it was found; 0 where nothing is.
-pub struct Flaw {
-    pub answer: u64,
-    pub place: usize,
-}
-
-// How many bytes a record's entry has.
-pub const ENTRY: usize = 9;
 
 // The output is too short.
 const CROWDED: u64 = 25;
@@ -98,7 +89,7 @@ fn play_on(
             c = m.control;
             far = turns::over(m);
         }
-        transcript::put(out, to, far.answer, far.value);
+        format::put(out, to, far.answer, far.value);
         from += RECORD;
         to += ENTRY;
     }
@@ -119,14 +110,14 @@ fn play_on(
 pub extern "C" fn lrt_play(schedule: &[u8], out: &mut [u8]) -> Played
     ensures { λ r. ⌜ output r (now (out .exit)) ≡ playRule (now (schedule .entry)) (now (out .entry)) ⌝ }
 {
-    let flaw = schedule::check(schedule);
+    let flaw = format::check(schedule);
     if flaw.answer != 0 {
         return Played {
             answer: flaw.answer,
             written: 0,
         };
     }
-    if out.len() < ENTRY * schedule::count(schedule) {
+    if out.len() < ENTRY * format::count(schedule) {
         return Played {
             answer: CROWDED,
             written: 0,

@@ -15,6 +15,7 @@ use Rattle.write.specs.Machine.{callOn, callRule}
 use Rattle.write.specs.World.{played}
 use Rattle.write.proofs.NeverBroken.{Sound}
 use Rattle.write.proofs.Turns.{place-below}
+use Rattle.format.proofs.Bytes.{put-entry}
 use Rattle.play.specs.Schedule.{decoded, callsIn}
 use Rattle.play.specs.Player.{transcript, machine}
 use Rattle.play.proofs.Turned.{sought, passes-below, sought-next, sought-here, within-below, read-slot}
@@ -116,9 +117,6 @@ loop-holds c =
     plays-start (a .args .s .now) (a .args .out .now) (a .args .st) (a .args .left .now) (a .args .right .now) (a .args .log .now) (begins a)
     (a .pre .1)
 
-decode-requires : tie.Need-decode-requires Inv-loop2 μ-loop2 Inv-loop3 μ-loop3 Inv-loop μ-loop
-decode-requires c κs = plays-record (c .before .loop .inv) (c .loop-test .taken)
-
 mul-facing : tie.Need-mul-facing Inv-loop2 μ-loop2 Inv-loop3 μ-loop3 Inv-loop μ-loop
 mul-facing c = omega (arith, placed c)
 
@@ -206,9 +204,6 @@ mul-turn c = omega (arith, within-below (c .before .before .before .loop3 .i))
 mul-slots-2 : tie.Need-mul-slots-2 Inv-loop2 μ-loop2 Inv-loop3 μ-loop3 Inv-loop μ-loop
 mul-slots-2 c = omega (arith, within-below (c .before .before .before .before .before .before .before .before .before .before .before .before .before .before .before .loop3 .i))
 
-put-requires : tie.Need-put-requires Inv-loop2 μ-loop2 Inv-loop3 μ-loop3 Inv-loop μ-loop
-put-requires c κs = plays-room (c .before .before .before .before .before .before .loop .inv) (c .before .before .before .before .before .loop-test .taken)
-
 add-from : tie.Need-add-from Inv-loop2 μ-loop2 Inv-loop3 μ-loop3 Inv-loop μ-loop
 add-from c = omega (arith, plays-record (c .before .before .before .before .before .before .before .before .before .loop .inv) (c .before .before .before .before .before .before .before .before .loop-test .taken))
 
@@ -221,7 +216,8 @@ loop-less c = omega (arith, plays-record (c .before .before .before .before .bef
 loop-again : tie.Need-loop-again Inv-loop2 μ-loop2 Inv-loop3 μ-loop3 Inv-loop μ-loop
 loop-again c =
     let j = c .before .before .before .before in
-    plays-next (j .before .before .before .before .before .loop .inv) (j .before .before .before .before .loop-test .taken) (says j) _ (c .before .before .put .ensures)
+    plays-next (j .before .before .before .before .before .loop .inv) (j .before .before .before .before .loop-test .taken) (says j) _
+    (c .before .before .put .ensures ∙ put-entry _ _ _ _ (plays-room (j .before .before .before .before .before .loop .inv) (j .before .before .before .before .loop-test .taken)))
 
 same-length : tie.Need-same-length Inv-loop2 μ-loop2 Inv-loop3 μ-loop3 Inv-loop μ-loop
 same-length c = c .before .loop .inv .sized
@@ -280,7 +276,7 @@ play-on-spec =
     μ-loop
     (λ c. search needs)
     loop-holds
-    decode-requires
+    (λ c κs. search needs)
     (λ c κs. search needs)
     (λ c κs. search needs)
     (λ c κs. search needs)
@@ -323,7 +319,7 @@ play-on-spec =
     mul-slots-2
     array-set-from-slots-2
     (λ c κs. search needs)
-    put-requires
+    (λ c κs. search needs)
     add-from
     add-to
     loop-less

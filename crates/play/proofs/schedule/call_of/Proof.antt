@@ -5,7 +5,7 @@ use native.Mathlib.Omega.{arith}
 use lib.ListN.{List·getD-eq-default}
 use Rattle.write.specs.declared.Call.the-variants.{Run}
 use Rattle.play.specs.Schedule.{callsBy}
-use Rattle.play.proofs.Records.{by-number}
+use Rattle.play.proofs.Calls.{by-number}
 use Rattle.play.proofs.schedule.call_of.Statement.{statement}
 use Rattle.play.proofs.schedule.call_of.Tie as tie
 

@@ -2,7 +2,7 @@
 use Prim.Native.Nat.{_-_}
 use mathlib.Core.Path.{_≡_}
 use native.Mathlib.Omega.{arith}
-use Rattle.play.proofs.Records.{by-number}
+use Rattle.play.proofs.Calls.{by-number}
 use Rattle.play.proofs.schedule.handle_of.Statement.{statement}
 use Rattle.play.proofs.schedule.handle_of.Tie as tie
 

@@ -1,0 +1,20 @@
+-- Each public contract determines what comes back and every byte of the output: any two results that it allows are equal.
+-- `Post` is the contract itself, as the check reads it from the source: of the arguments a, the result and the parameters at exit.
+use mathlib.Core.Path.{_≡_, sym, _∙_}
+use denote.Ref.{now}
+use Rattle.format.proofs.count.Reads as count
+use Rattle.format.proofs.fields_at.Reads as fields-at
+use Rattle.format.proofs.check.Reads as check
+use Rattle.format.proofs.put.Reads as put
+
+count-determined : (κs : _) (a : _) (r q : _) (s t : _) → count.Post κs a r s → count.Post κs a q t → r ≡ q
+count-determined κs a r q s t h l = h ∙ sym l
+
+fields-at-determined : (κs : _) (a : _) (r q : _) (s t : _) → fields-at.Post κs a r s → fields-at.Post κs a q t → r ≡ q
+fields-at-determined κs a r q s t h l = h ∙ sym l
+
+check-determined : (κs : _) (a : _) (r q : _) (s t : _) → check.Post κs a r s → check.Post κs a q t → r ≡ q
+check-determined κs a r q s t h l = h ∙ sym l
+
+put-determined : (κs : _) (a : _) (r q : _) (s t : _) → put.Post κs a r s → put.Post κs a q t → now (s .0) ≡ now (t .0)
+put-determined κs a r q s t h l = h ∙ sym l

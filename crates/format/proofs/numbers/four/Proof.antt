@@ -1,0 +1,15 @@
+-- Four bytes, by the law of numbers that stand one behind the other.
+use native.Mathlib.Omega.{arith}
+use borrow.Author.Needs.{needs}
+use Rattle.format.proofs.Bytes.{number-joined}
+use Rattle.format.proofs.numbers.four.Statement.{statement}
+use Rattle.format.proofs.numbers.four.Tie as tie
+
+returns : tie.Need-returns
+returns c =
+    let a = c .before .before .before .args in
+    (number-joined 2 2 (a .s .now) (a .at) (c .before .two .ensures .0) (c .two2 .ensures .0), omega arith)
+
+pub four-spec : {M : Type 1} → statement M
+four-spec =
+    tie.close (tie.spec (λ c κs. search needs) (λ c. search needs) (λ c κs. search needs) (λ c. search needs) (λ c. search needs) returns)
