@@ -41,7 +41,7 @@ pub fn text(s: &[u8], n: usize) -> &[u8] {
         put(b"the text is too long\n");
         return &s[..0];
     }
-    &s[..n]
+    &s[0..n]
 }
 
 // The first place from `at` on where byte `b` stands, or the text's end.
@@ -49,14 +49,7 @@ pub fn until(s: &[u8], at: usize, b: u8) -> usize
     requires { ⌜ at ≤ length (now s) ⌝ }
     ensures { λ r. ⌜ (at ≤ r) × (r ≤ length (now (s .entry))) ⌝ }
 {
-    let mut i = at;
-    while i < s.len() {
-        if s[i] == b {
-            return i;
-        }
-        i += 1;
-    }
-    i
+    bytes::scan::find(s, at, s.len(), b)
 }
 
 // The place behind one that is not past the text's end.

@@ -1,4 +1,4 @@
--- What the contracts of the program's text say. The two sizes are those of the constants `page::SIZE` and `RECORDS`.
+-- What the contracts of the text that is gathered say. The two sizes are those of the constants `gather::SIZE` and `RECORDS`.
 use Prim.Native.Nat.{ℕ, _≤_}
 
 abbrev pub pageBytes : ℕ

@@ -1,9 +1,9 @@
--- `page::blanks` is safe, ends, and stays within the page: the column comes closer at each turn.
+-- `gather::blanks` is safe, ends, and stays within the page: the column comes closer at each turn.
 use Prim.Native.Nat.{_-_}
 use borrow.Author.Needs.{needs}
-use Rattle.lrt.specs.Page.{OnPage}
-use Rattle.lrt.proofs.page.blanks.Statement.{statement}
-use Rattle.lrt.proofs.page.blanks.Tie as tie
+use Rattle.page.specs.Page.{OnPage}
+use Rattle.page.proofs.gather.blanks.Statement.{statement}
+use Rattle.page.proofs.gather.blanks.Tie as tie
 
 abbrev Inv-loop : tie.InvT-loop
 Inv-loop page₀ at column n₀ page n = OnPage n

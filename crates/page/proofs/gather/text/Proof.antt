@@ -1,10 +1,10 @@
--- `page::text` is safe, ends, and stays within the page: the turns are the text's bytes.
+-- `gather::text` is safe, ends, and stays within the page: the turns are the text's bytes.
 use Prim.Native.Nat.{_-_, _≤_}
 use borrow.Author.Needs.{needs}
 use lib.ListN.{length}
-use Rattle.lrt.specs.Page.{OnPage}
-use Rattle.lrt.proofs.page.text.Statement.{statement}
-use Rattle.lrt.proofs.page.text.Tie as tie
+use Rattle.page.specs.Page.{OnPage}
+use Rattle.page.proofs.gather.text.Statement.{statement}
+use Rattle.page.proofs.gather.text.Tie as tie
 
 abbrev Inv-loop : tie.InvT-loop
 Inv-loop page₀ at s n₀ i₀ page n i = OnPage n × (i ≤ length s)

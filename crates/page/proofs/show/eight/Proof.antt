@@ -1,8 +1,8 @@
 -- `show::eight` is safe and ends: `i` falls from 8.
 use Prim.Native.Nat.{_≤_}
 use borrow.Author.Needs.{needs}
-use Rattle.lrt.proofs.show.eight.Statement.{statement}
-use Rattle.lrt.proofs.show.eight.Tie as tie
+use Rattle.page.proofs.show.eight.Statement.{statement}
+use Rattle.page.proofs.show.eight.Tie as tie
 
 abbrev Inv-loop : tie.InvT-loop
 Inv-loop s v₀ i₀ v i = i ≤ 8

@@ -2,9 +2,9 @@
 use Prim.Native.Nat.{_-_}
 use borrow.Author.Needs.{needs}
 use lib.ListN.{length}
-use Rattle.lrt.specs.Page.{OnPage}
-use Rattle.lrt.proofs.show.fill.Statement.{statement}
-use Rattle.lrt.proofs.show.fill.Tie as tie
+use Rattle.page.specs.Page.{OnPage}
+use Rattle.page.proofs.show.fill.Statement.{statement}
+use Rattle.page.proofs.show.fill.Tie as tie
 
 abbrev Inv-loop : tie.InvT-loop
 Inv-loop page₀ at row «record» n₀ i₀ page n i = OnPage n

@@ -1,9 +1,9 @@
 -- `show::all` is safe and ends: `line` keeps `n` within the page, and the turns are the records that a schedule may have.
 use Prim.Native.Nat.{_-_, _≤_}
 use borrow.Author.Needs.{needs}
-use Rattle.lrt.specs.Page.{mostRecords, OnPage}
-use Rattle.lrt.proofs.show.all.Statement.{statement}
-use Rattle.lrt.proofs.show.all.Tie as tie
+use Rattle.page.specs.Page.{mostRecords, OnPage}
+use Rattle.page.proofs.show.all.Statement.{statement}
+use Rattle.page.proofs.show.all.Tie as tie
 
 abbrev Inv-loop : tie.InvT-loop
 Inv-loop fd schedule transcript page₀ n₀ i₀ page n i = OnPage n × (i ≤ mostRecords)

@@ -1,5 +1,5 @@
 // Text that is gathered in a page from its start on. What does not fit is left out.
-ghost use Rattle.lrt.specs.Page.{OnPage};
+ghost use Rattle.page.specs.Page.{OnPage};
 
 pub(crate) const SIZE: usize = 65536;
 

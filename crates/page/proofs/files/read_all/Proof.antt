@@ -1,10 +1,10 @@
--- `read_all` is safe and ends: each turn but the last reads a byte or more, and `count` keeps that within what is left of the buffer.
+-- `files::read_all` is safe and ends: each turn but the last reads a byte or more, and `count` keeps that within what is left of the buffer.
 use mathlib.Core.Path.{_≡_}
 use Prim.Native.Nat.{_-_, _≤_}
 use borrow.Author.Needs.{needs}
 use lib.ListN.{length}
-use Rattle.lrt.proofs.read_all.Statement.{statement}
-use Rattle.lrt.proofs.read_all.Tie as tie
+use Rattle.page.proofs.files.read_all.Statement.{statement}
+use Rattle.page.proofs.files.read_all.Tie as tie
 
 abbrev Inv-loop : tie.InvT-loop
 Inv-loop fd buf₀ n₀ buf n = (n ≤ length buf) × (length buf ≡ length buf₀)

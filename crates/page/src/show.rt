@@ -1,16 +1,16 @@
 // A schedule's records and what came of them, one to a line.
-use crate::ENTRY;
-use crate::HEAD;
-use crate::RECORD;
 use crate::RECORDS;
-use crate::page::SIZE;
-use crate::page::blanks;
-use crate::page::number;
-use crate::page::put;
-use crate::page::text;
+use crate::files::start;
+use crate::gather::SIZE;
+use crate::gather::blanks;
+use crate::gather::number;
+use crate::gather::put;
+use crate::gather::text;
 use crate::rows::row;
-use crate::start;
-ghost use Rattle.lrt.specs.Page.{OnPage};
+use format::ENTRY;
+use format::HEAD;
+use format::RECORD;
+ghost use Rattle.page.specs.Page.{OnPage};
 
 // The bytes of a record at which its fields start.
 const CALL: usize = 0;
