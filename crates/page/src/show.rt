@@ -8,22 +8,10 @@ use crate::gather::put;
 use crate::gather::text;
 use crate::rows::row;
 use format::ENTRY;
+use format::Fields;
 use format::HEAD;
 use format::RECORD;
 ghost use Rattle.page.specs.Page.{OnPage};
-
-// The bytes of a record at which its fields start.
-const CALL: usize = 0;
-
-const SLOT: usize = 1;
-
-const GUARD: usize = 2;
-
-const KIND: usize = 3;
-
-const KEY: usize = 4;
-
-const AMOUNT: usize = 12;
 
 // An entry has the answer, then the value.
 const ANSWER: usize = 0;
@@ -90,18 +78,18 @@ fn kind(page: &mut [u8; SIZE], at: usize, k: u64) -> usize
 }
 
 // One letter of a call's row. A capital stands for a field: S slot, G guard, O the operation's kind, K key, A amount.
-fn letter(page: &mut [u8; SIZE], at: usize, b: u8, record: &[u8]) -> usize
+fn letter(page: &mut [u8; SIZE], at: usize, b: u8, f: Fields) -> usize
     requires { ⌜ OnPage at ⌝ }
     ensures { λ r. ⌜ OnPage r ⌝ }
 {
     let value = match b {
-        b'S' => byte(record, SLOT),
-        b'G' => byte(record, GUARD),
+        b'S' => f.slot as u64,
+        b'G' => f.guard as u64,
         b'O' => {
-            return kind(page, at, byte(record, KIND));
+            return kind(page, at, f.kind);
         }
-        b'K' => eight(rest(record, KEY)),
-        b'A' => eight(rest(record, AMOUNT)),
+        b'K' => f.key,
+        b'A' => f.amount,
         _ => {
             return put(page, at, b);
         }
@@ -110,27 +98,27 @@ fn letter(page: &mut [u8; SIZE], at: usize, b: u8, record: &[u8]) -> usize
 }
 
 // A call's row, with the record's fields in their places.
-fn fill(page: &mut [u8; SIZE], at: usize, row: &[u8], record: &[u8]) -> usize
+fn fill(page: &mut [u8; SIZE], at: usize, row: &[u8], f: Fields) -> usize
     requires { ⌜ OnPage at ⌝ }
     ensures { λ r. ⌜ OnPage r ⌝ }
 {
     let mut n = at;
     let mut i = 0;
     while i < row.len() {
-        n = letter(page, n, row[i], record);
+        n = letter(page, n, row[i], f);
         i += 1;
     }
     n
 }
 
 // The call with the fields that it uses: a row for each, by its number.
-fn call(page: &mut [u8; SIZE], at: usize, record: &[u8]) -> usize
+fn call(page: &mut [u8; SIZE], at: usize, f: Fields) -> usize
     requires { ⌜ OnPage at ⌝ }
     ensures { λ r. ⌜ OnPage r ⌝ }
 {
     let calls =
         b"?|create|drop slot S|enter slot S|go-on slot S|release slot S guard G|look-up slot S guard G key K|was-dropped slot S|append O key K amount A|publish|try|flush|take|step|run|?";
-    fill(page, at, row(calls, byte(record, CALL)), record)
+    fill(page, at, row(calls, f.call), f)
 }
 
 // The answer's name, by its number.
@@ -144,13 +132,13 @@ fn meaning(page: &mut [u8; SIZE], at: usize, answer: u64) -> usize
 }
 
 // A record, by its number, with its entry of the transcript.
-fn line(page: &mut [u8; SIZE], at: usize, i: u64, record: &[u8], entry: &[u8]) -> usize
+fn line(page: &mut [u8; SIZE], at: usize, i: u64, f: Fields, entry: &[u8]) -> usize
     requires { ⌜ OnPage at ⌝ }
     ensures { λ r. ⌜ OnPage r ⌝ }
 {
     let n = number(page, at, i, at + NUMBER_WIDE);
     let n = blanks(page, n, n + GAP);
-    let to = call(page, n, record);
+    let to = call(page, n, f);
     let n = blanks(page, to, n + CALL_WIDE);
     let answer = byte(entry, ANSWER);
     let to = number(page, n, answer, n + ANSWER_NUMBER_WIDE);
@@ -174,9 +162,9 @@ pub(crate) fn all(fd: i32, schedule: &[u8], transcript: &[u8]) -> bool {
         if entry.len() == 0 {
             break;
         }
-        let record = rest(schedule, HEAD + i * RECORD);
+        let f = format::fields_at(schedule, HEAD + i * RECORD);
         i += 1;
-        n = line(&mut page, n, i as u64, record, entry);
+        n = line(&mut page, n, i as u64, f, entry);
         if n > SIZE - LONGEST {
             if !write(fd, &page, n) {
                 return false;
