@@ -16,7 +16,4 @@ pub mod Arms
 pub mod Made
 pub mod Turns
 pub mod Callings
-pub mod Determined
 pub mod Computes
-pub mod Promises
-pub mod Wrong

@@ -1,9 +1,9 @@
--- Each public contract as a promise of any program, a program being a function of the arguments (`table`'s `Contracts`).
+-- Each public contract as a promise of any program, a program being a function of the arguments (`Contracts`).
 use Prim.Native.Nat.{ℕ}
 use mathlib.Core.Path.{_≡_, refl}
 use mathlib.Core.Bool.{Bool}
 use mathlib.Core.List.{List}
-use Rattle.table.proofs.Contracts.{typed, Words, Refs, refs, lends, κ₃, Leaves, Keeps, Keeps1, Keeps2}
+use Rattle.promises.proofs.Contracts.{typed, Words, Refs, refs, lends, κ₃, Leaves, Keeps, Keeps1, Keeps2}
 use Rattle.read.specs.declared.Slot.{Slot}
 use Rattle.read.specs.declared.Phase.{Phase}
 use Rattle.read.specs.declared.Control.{Control}

@@ -1,12 +1,12 @@
--- Each public contract as a promise of any program, a program being a function of the arguments (`table`'s `Contracts`).
+-- Each public contract as a promise of any program, a program being a function of the arguments (`Contracts`).
 use Prim.Native.Nat.{ℕ}
 use mathlib.Core.List.{List}
-use Rattle.table.proofs.Contracts.{typed, Bytes, ref, κ₁, κ₂, Leaves, Keeps}
+use Rattle.promises.proofs.Contracts.{typed, Bytes, ref, κ₁, κ₂, Leaves, Keeps}
 use Rattle.play.specs.declared.Flaw.{Flaw}
 use Rattle.play.specs.Schedule.{count}
 use Rattle.play.specs.Player.{flawOf, playRule}
 use Rattle.play.specs.Refusals.{Player}
 use Rattle.play.proofs
 
 abbrev pub CountPromise : (List ℕ → ℕ) → Type 0
 CountPromise f =

@@ -9,20 +9,20 @@ use borrow.Author.Tests.{eqb-false}
 use lib.Dec.{eqb, ltb, leb}
 use lib.ListN.{length, getD, take, drop, set, replicate}
 use Rattle.table.proofs.Computes.{apart}
-use Rattle.table.proofs.Contracts.{Bytes, slice}
+use Rattle.promises.proofs.Contracts.{Bytes, slice}
 use Rattle.table.specs.declared.Answer.the-variants as answer
 use Rattle.read.specs.Calls.{lent}
 use Rattle.write.specs.declared.Call.{Call}
 use Rattle.write.specs.declared.Call.the-variants.{Create, On, Append, Open, Step, Run}
 use Rattle.write.specs.Machine.{callRule}
 use Rattle.write.specs.World.{Machine, freshWorld, played}
 use Rattle.play.specs.declared.Flaw.{Flaw}
 use Rattle.play.specs.Schedule.{numberAt, bytesOf, headBytes, recordBytes, count, marked, versionOf, torn, firstUnknown, fieldsAt, callOf, decoded, callsFrom}
 use Rattle.play.specs.Player.{entryBytes, entryOf, entriesOf, transcript, flaw, flawOf, refusalOf, Output, output, playRule}
 use Rattle.play.specs.Refusals.{Player, Applies, Refusals}
 use Rattle.play.proofs.Computes.{rules}
 use Rattle.play.proofs.Ends.{head, recordOf, p1}
-use Rattle.play.proofs.Promises.{CountPromise, CheckPromise, PlayPromise}
+use Rattle.promises.proofs.play.Promises.{CountPromise, CheckPromise, PlayPromise}
 
 -- ---- what the witnesses are made of
 

@@ -1,24 +1,25 @@
--- Each public contract as a promise of any program, a program being a function of the arguments (`table`'s `Contracts`).
+-- Each public contract as a promise of any program, a program being a function of the arguments (`Contracts`).
 use Prim.Native.Nat.{ℕ}
 use mathlib.Core.Bool.{Bool, _||_}
 use mathlib.Core.List.{List}
-use Rattle.table.proofs.Contracts.{typed, Words, ref, Refs, refs, lends, κ₁, κ₂, κ₃, Leaves, Keeps, Keeps1, Keeps2}
+use Rattle.promises.proofs.Contracts.{typed, Words, ref, Refs, refs, lends, κ₁, κ₂, κ₃, Leaves, Keeps, Keeps1, Keeps2}
 use Rattle.read.specs.declared.Due.{Due}
 use Rattle.read.specs.declared.Guard.{Guard}
 use Rattle.read.specs.declared.Slot.{Slot}
 use Rattle.read.specs.declared.Phase.{Phase}
 use Rattle.read.specs.declared.Control.{Control}
 use Rattle.read.specs.declared.State.{State}
 use Rattle.read.specs.declared.Handle.{Handle}
 use Rattle.read.specs.declared.Verdict.{Verdict}
 use Rattle.read.specs.declared.Made.{Made}
 use Rattle.read.specs.declared.Reply.{Reply}
 use Rattle.read.specs.declared.Handle.the-variants.{Drop, Enter, GoOn, Release, LookUp, WasDropped}
 use Rattle.read.specs.Machine.{same, isOpen, firstGuard, anyOpen, allOpen, isDue, isLoad, noSlot, newSlot, locks, nulls, sized, glanced, judged, row}
 use Rattle.read.specs.Admission.{entry}
 use Rattle.read.specs.Handles.{smallest, handleSigns, freed, entered, wentOn, released, guardedCopy, handleOn}
 use Rattle.read.specs.Calls.{Lent, handleRule, createRule, viewRule, pairRule, startRule}
 use Rattle.read.proofs
+use Rattle.read.proofs.Inner as inner
 
 -- ---- admission
 
@@ -31,7 +32,7 @@ EntryPromise = Keeps2 (typed tt proofs.admission.entry.Kinds.ps) (proofs.admissi
 -- ---- guards and slots
 
 abbrev pub FirstGuardPromise : (Bool → List Guard → ℕ) → Type 0
-FirstGuardPromise = Keeps2 (typed tt proofs.guards.first_guard.Kinds.ps) (proofs.guards.first_guard.Reads.Post tt)
+FirstGuardPromise = Keeps2 (typed tt (inner.first-guard .takes)) (inner.first-guard .post tt)
 
 abbrev pub IsOpenPromise : (List Guard → ℕ → Bool) → Type 0
 IsOpenPromise = Keeps2 (typed tt proofs.guards.is_open.Kinds.ps) (proofs.guards.is_open.Reads.Post tt)
@@ -40,16 +41,16 @@ abbrev pub AnyOpenPromise : (List Guard → Bool) → Type 0
 AnyOpenPromise = Keeps1 (typed tt proofs.guards.any_open.Kinds.ps) (proofs.guards.any_open.Reads.Post tt)
 
 abbrev pub AllOpenPromise : (List Guard → Bool) → Type 0
-AllOpenPromise = Keeps1 (typed tt proofs.guards.all_open.Kinds.ps) (proofs.guards.all_open.Reads.Post tt)
+AllOpenPromise = Keeps1 (typed tt (inner.all-open .takes)) (inner.all-open .post tt)
 
 abbrev pub IsDuePromise : (Due → Bool) → Type 0
 IsDuePromise = Keeps1 (typed tt proofs.guards.is_due.Kinds.ps) (proofs.guards.is_due.Reads.Post tt)
 
 abbrev pub IsLoadPromise : (Due → Bool) → Type 0
-IsLoadPromise = Keeps1 (typed tt proofs.guards.is_load.Kinds.ps) (proofs.guards.is_load.Reads.Post tt)
+IsLoadPromise = Keeps1 (typed tt (inner.is-load .takes)) (inner.is-load .post tt)
 
 abbrev pub NoSlotPromise : Slot → Type 0
-NoSlotPromise = Keeps (typed tt proofs.guards.no_slot.Kinds.ps) (proofs.guards.no_slot.Reads.Post tt) tt
+NoSlotPromise = Keeps (typed tt (inner.no-slot .takes)) (inner.no-slot .post tt) tt
 
 abbrev pub NewSlotPromise : Slot → Type 0
 NewSlotPromise = Keeps (typed tt proofs.guards.new_slot.Kinds.ps) (proofs.guards.new_slot.Reads.Post tt) tt
@@ -58,10 +59,10 @@ abbrev pub FreedPromise : (Slot → Slot) → Type 0
 FreedPromise = Keeps1 (typed tt proofs.guards.freed.Kinds.ps) (proofs.guards.freed.Reads.Post tt)
 
 abbrev pub EnteredPromise : (Control → Slot → Made) → Type 0
-EnteredPromise = Keeps2 (typed tt proofs.guards.entered.Kinds.ps) (proofs.guards.entered.Reads.Post tt)
+EnteredPromise = Keeps2 (typed tt (inner.entered .takes)) (inner.entered .post tt)
 
 abbrev pub WentOnPromise : (Control → Slot → Made) → Type 0
-WentOnPromise = Keeps2 (typed tt proofs.guards.went_on.Kinds.ps) (proofs.guards.went_on.Reads.Post tt)
+WentOnPromise = Keeps2 (typed tt (inner.went-on .takes)) (inner.went-on .post tt)
 
 abbrev pub ReleasedPromise : (ℕ → Slot → Slot) → Type 0
 ReleasedPromise = Keeps2 (typed tt proofs.guards.released.Kinds.ps) (proofs.guards.released.Reads.Post tt)
@@ -71,12 +72,12 @@ ReleasedPromise = Keeps2 (typed tt proofs.guards.released.Kinds.ps) (proofs.guar
 abbrev pub VerdictPromise : (Control → Bool → Slot → Handle → Verdict) → Type 0
 VerdictPromise f =
     (c : Control) (own : Bool) (s : Slot) (h : Handle) →
-    Keeps (typed tt proofs.handles.verdict.Kinds.ps) (proofs.handles.verdict.Reads.Post tt) (c, (own, (s, (h, tt)))) (f c own s h)
+    Keeps (typed tt (inner.verdict .takes)) (inner.verdict .post tt) (c, (own, (s, (h, tt)))) (f c own s h)
 
 abbrev pub GuardedCopyPromise : (List Guard → ℕ → List ℕ → List ℕ → List ℕ) → Type 0
 GuardedCopyPromise f =
     (gs : List Guard) (j : ℕ) (l r : Words) →
-    Keeps (typed κ₁ proofs.handles.guarded_copy.Kinds.ps) (proofs.handles.guarded_copy.Reads.Post κ₁)
+    Keeps (typed κ₁ (inner.guarded-copy .takes)) (inner.guarded-copy .post κ₁)
     (gs, (j, (ref (l .list), (ref (r .list), tt)))) (ref (f gs j (l .list) (r .list)))
 
 abbrev pub HandlePromise : (Control → Bool → Slot → Handle → List ℕ → List ℕ → Made) → Type 0
@@ -94,20 +95,20 @@ abbrev pub LocksPromise : (Phase → Bool) → Type 0
 LocksPromise = Keeps1 (typed tt proofs.judge.locks.Kinds.ps) (proofs.judge.locks.Reads.Post tt)
 
 abbrev pub NullsPromise : (Phase → Bool) → Type 0
-NullsPromise = Keeps1 (typed tt proofs.judge.nulls.Kinds.ps) (proofs.judge.nulls.Reads.Post tt)
+NullsPromise = Keeps1 (typed tt (inner.nulls .takes)) (inner.nulls .post tt)
 
 abbrev pub SamePromise : (Bool → Bool → Bool) → Type 0
-SamePromise = Keeps2 (typed tt proofs.judge.same.Kinds.ps) (proofs.judge.same.Reads.Post tt)
+SamePromise = Keeps2 (typed tt (inner.same .takes)) (inner.same .post tt)
 
 abbrev pub SizedPromise : (List ℕ → List ℕ → List ℕ → Bool) → Type 0
 SizedPromise f =
     (l r g : Words) →
-    Keeps (typed κ₃ proofs.judge.sized.Kinds.ps) (proofs.judge.sized.Reads.Post κ₃) (lends l r g) (f (l .list) (r .list) (g .list))
+    Keeps (typed κ₃ (inner.sized .takes)) (inner.sized .post κ₃) (lends l r g) (f (l .list) (r .list) (g .list))
 
 abbrev pub GlancePromise : (Control → List ℕ → List ℕ → List ℕ → Verdict) → Type 0
 GlancePromise f =
     (c : Control) (l r g : Words) →
-    Keeps (typed κ₃ proofs.judge.glance.Kinds.ps) (proofs.judge.glance.Reads.Post κ₃) (c, lends l r g) (f c (l .list) (r .list) (g .list))
+    Keeps (typed κ₃ (inner.glance .takes)) (inner.glance .post κ₃) (c, lends l r g) (f c (l .list) (r .list) (g .list))
 
 abbrev pub JudgePromise : (Control → List ℕ → List ℕ → List ℕ → Verdict) → Type 0
 JudgePromise f =

@@ -10,36 +10,36 @@ use Rattle.table.specs.Answers.{number}
 use Rattle.table.specs.Seek.{seek}
 use Rattle.table.specs.Copy.{words, zeros, usedRule}
 use Rattle.table.specs.declared.Answer.the-variants as answer
 use Rattle.read.specs.declared.Due.{Due}
 use Rattle.read.specs.declared.Due.the-variants.{Nothing, Load, Restore}
 use Rattle.read.specs.declared.Guard.{Guard}
 use Rattle.read.specs.declared.Slot.{Slot}
 use Rattle.read.specs.declared.Job.the-variants.{Publish}
 use Rattle.read.specs.declared.Phase.{Phase}
 use Rattle.read.specs.declared.Phase.the-variants.{Idle, Poll, Gone}
 use Rattle.read.specs.declared.Control.{Control}
 use Rattle.read.specs.declared.State.{State}
 use Rattle.read.specs.declared.Handle.{Handle}
 use Rattle.read.specs.declared.Handle.the-variants.{Drop, Enter, GoOn, Release, LookUp, WasDropped}
 use Rattle.read.specs.declared.Verdict.{Verdict}
 use Rattle.read.specs.declared.Verdict.the-variants.{Admitted, Refused}
 use Rattle.read.specs.declared.Made.{Made}
 use Rattle.read.specs.declared.Reply.{Reply}
 use Rattle.read.specs.Machine.{standing, holding, openOn, withUse, withReading, slotCount, guardCount, logWords, shut, noGuards, isOpen, standsRight, putGuard, same, firstGuard, anyOpen, allOpen, isDue, isLoad, noSlot, newSlot, isGone, underway, wholeControl, glanced, judged, fresh, row}
 use Rattle.read.specs.Admission.{handleNumber, entry}
 use Rattle.read.specs.Handles.{mistimed, smallest, handleSigns, bumped, withDue, loaded, entered, wentOn, released, copyOf}
 use Rattle.read.specs.Calls.{slotAt, withSlot, refusal, Lent, lent, handleReply, firstFree, handleRule, createRule, viewRule, pairRule, startRule}
 use Rattle.table.proofs.Computes.{apart}
-use Rattle.table.proofs.Contracts.{Words, slice}
+use Rattle.promises.proofs.Contracts.{Words, slice}
 use Rattle.read.proofs.Computes.{rules}
-use Rattle.read.proofs.Promises.{RowPromise, EntryPromise, FirstGuardPromise, IsOpenPromise}
-use Rattle.read.proofs.Promises.{AnyOpenPromise, AllOpenPromise, IsDuePromise, IsLoadPromise, NoSlotPromise, NewSlotPromise}
-use Rattle.read.proofs.Promises.{FreedPromise, EnteredPromise, WentOnPromise, ReleasedPromise, VerdictPromise, GuardedCopyPromise}
-use Rattle.read.proofs.Promises.{HandlePromise, EitherPromise, LocksPromise, NullsPromise, SamePromise}
-use Rattle.read.proofs.Promises.{SizedPromise, GlancePromise, JudgePromise, StartPromise, CreatePromise, DropPromise, EnterPromise}
-use Rattle.read.proofs.Promises.{GoOnPromise, WasDroppedPromise, OnHandlePromise, ReleasePromise, LookUpPromise, ViewPromise}
-use Rattle.read.proofs.Promises.{PairPromise}
+use Rattle.promises.proofs.read.Promises.{RowPromise, EntryPromise, FirstGuardPromise, IsOpenPromise}
+use Rattle.promises.proofs.read.Promises.{AnyOpenPromise, AllOpenPromise, IsDuePromise, IsLoadPromise, NoSlotPromise, NewSlotPromise}
+use Rattle.promises.proofs.read.Promises.{FreedPromise, EnteredPromise, WentOnPromise, ReleasedPromise, VerdictPromise, GuardedCopyPromise}
+use Rattle.promises.proofs.read.Promises.{HandlePromise, EitherPromise, LocksPromise, NullsPromise, SamePromise}
+use Rattle.promises.proofs.read.Promises.{SizedPromise, GlancePromise, JudgePromise, StartPromise, CreatePromise, DropPromise, EnterPromise}
+use Rattle.promises.proofs.read.Promises.{GoOnPromise, WasDroppedPromise, OnHandlePromise, ReleasePromise, LookUpPromise, ViewPromise}
+use Rattle.promises.proofs.read.Promises.{PairPromise}
 use Rattle.read.proofs.Cases.{stateOf, withLock}
 
 -- ---- what the witnesses are made of
 
