@@ -1,6 +1,4 @@
 pub mod Cases
-pub mod Determined
+pub mod Inner
 pub mod Laws
-pub mod Promises
 pub mod Values
-pub mod Wrong

@@ -7,8 +7,5 @@ pub mod Run
 pub mod Turned
 pub mod Going
 pub mod Plays
-pub mod Determined
-pub mod Promises
 pub mod Computes
 pub mod Ends
-pub mod Wrong

@@ -3,7 +3,5 @@ pub mod Tests
 pub mod Table
 pub mod Verdicts
 pub mod Cases
-pub mod Determined
+pub mod Inner
 pub mod Computes
-pub mod Promises
-pub mod Wrong

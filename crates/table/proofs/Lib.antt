@@ -1,4 +1,5 @@
 -- The laws of the count table.
+pub mod Contract
 pub mod Split
 pub mod Seek
 pub mod Cases
@@ -13,8 +14,4 @@ pub mod CopyOrder
 pub mod CopyLook
 pub mod CopyMap
 pub mod CopyBelow
-pub mod Determined
 pub mod Computes
-pub mod Contracts
-pub mod Promises
-pub mod Wrong

@@ -14,7 +14,4 @@ pub mod Lent
 pub mod Arms
 pub mod Made
 pub mod Turns
-pub mod Determined
 pub mod Computes
-pub mod Promises
-pub mod Wrong

@@ -1,8 +1,8 @@
--- The public contract as a promise of any program, a program being a function of the arguments (`table`'s `Contracts`).
-use Rattle.table.proofs.Contracts.{typed, Bytes, ref, κ₂, Leaves}
+-- The public contract as a promise of any program, a program being a function of the arguments (`Contracts`).
+use Rattle.promises.proofs.Contracts.{typed, Bytes, ref, κ₂, Leaves}
 use Rattle.play.specs.Player.{playRule}
 use Rattle.play.specs.Refusals.{Player}
 use Rattle.play.proofs
 
 abbrev pub PlayPromise : Player → Type 0
 PlayPromise play =

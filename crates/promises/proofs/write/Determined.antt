@@ -5,18 +5,23 @@ use mathlib.Core.List.{List}
 use Prim.Native.Nat.{ℕ}
 use denote.Ref.{now}
 use Rattle.read.specs.Calls.{Lent, lent}
-use Rattle.write.proofs.append.Reads as append
-use Rattle.write.proofs.step.Reads as step
-use Rattle.write.proofs.run.Reads as run
-use Rattle.write.proofs.publish.Reads as publish
-use Rattle.write.proofs.try_publish.Reads as try-publish
-use Rattle.write.proofs.flush.Reads as flush
-use Rattle.write.proofs.take.Reads as take
+use Rattle.machine.proofs.append.Reads as append
+use Rattle.machine.proofs.step.Reads as step
+use Rattle.machine.proofs.run.Reads as run
+use Rattle.machine.proofs.publish.Reads as publish
+use Rattle.machine.proofs.try_publish.Reads as try-publish
+use Rattle.machine.proofs.flush.Reads as flush
+use Rattle.machine.proofs.take.Reads as take
 use Rattle.write.proofs.begins.append_on.Reads as append-on
 use Rattle.write.proofs.begins.open_on.Reads as open-on
 use Rattle.write.proofs.steps.advance.Reads as advance
 use Rattle.write.proofs.steps.holds.Reads as holds
 use Rattle.write.proofs.steps.place.Reads as place
+use Rattle.write.proofs.phases.underway.Reads as underway
+use Rattle.write.proofs.phases.at.Reads as at
+use Rattle.write.proofs.phases.polling.Reads as polling
+use Rattle.write.proofs.phases.last_polling.Reads as last-polling
+use Rattle.write.proofs.begins.step_verdict.Reads as step-verdict
 
 -- two outcomes that are both what a rule says
 same :
@@ -77,3 +82,18 @@ holds-determined κs a r q s t h l = h ∙ sym l
 
 place-determined : (κs : _) (a : _) (r q : _) (s t : _) → place.Post κs a r s → place.Post κs a q t → r ≡ q
 place-determined κs a r q s t h l = h ∙ sym l
+
+underway-determined : (κs : _) (a : _) (r q : _) (s t : _) → underway.Post κs a r s → underway.Post κs a q t → r ≡ q
+underway-determined κs a r q s t h l = h ∙ sym l
+
+at-determined : (κs : _) (a : _) (r q : _) (s t : _) → at.Post κs a r s → at.Post κs a q t → r ≡ q
+at-determined κs a r q s t h l = h ∙ sym l
+
+polling-determined : (κs : _) (a : _) (r q : _) (s t : _) → polling.Post κs a r s → polling.Post κs a q t → r ≡ q
+polling-determined κs a r q s t h l = h ∙ sym l
+
+last-polling-determined : (κs : _) (a : _) (r q : _) (s t : _) → last-polling.Post κs a r s → last-polling.Post κs a q t → r ≡ q
+last-polling-determined κs a r q s t h l = h ∙ sym l
+
+step-verdict-determined : (κs : _) (a : _) (r q : _) (s t : _) → step-verdict.Post κs a r s → step-verdict.Post κs a q t → r ≡ q
+step-verdict-determined κs a r q s t h l = h ∙ sym l

@@ -7,13 +7,13 @@ use lib.Dec.{eqb, ltb, leb}
 use lib.ListN.{length, getD, drop, take, replicate}
 use lib.Seq.{sets}
 use Rattle.table.proofs.Computes.{apart}
-use Rattle.table.proofs.Contracts.{Bytes, slice}
+use Rattle.promises.proofs.Contracts.{Bytes, slice}
 use Rattle.format.specs.declared.Fields.{Fields}
 use Rattle.format.specs.declared.Flaw.{Flaw}
 use Rattle.format.specs.Schedule.{numberAt, bytesOf, recordBytes, count, marked, versionOf, torn, firstUnknown, fieldsAt, flaw, flawOf}
 use Rattle.format.specs.Transcript.{entryBytes, entryOf}
 use Rattle.format.proofs.Computes.{rules}
-use Rattle.format.proofs.Promises.{CountPromise, FieldsPromise, CheckPromise, PutPromise}
+use Rattle.promises.proofs.format.Promises.{CountPromise, FieldsPromise, CheckPromise, PutPromise}
 
 -- ---- what the witnesses are made of
 

@@ -1,12 +1,12 @@
--- Each public contract as a promise of any program, a program being a function of the arguments (`table`'s `Contracts`).
+-- Each public contract as a promise of any program, a program being a function of the arguments (`Contracts`).
 use Prim.Native.Nat.{ℕ}
 use mathlib.Core.List.{List}
-use Rattle.table.proofs.Contracts.{typed, Bytes, ref, κ₁, Leaves, Keeps}
+use Rattle.promises.proofs.Contracts.{typed, Bytes, ref, κ₁, Leaves, Keeps}
 use Rattle.format.specs.declared.Fields.{Fields}
 use Rattle.format.specs.declared.Flaw.{Flaw}
 use Rattle.format.specs.Schedule.{count, fieldsAt, flawOf}
 use Rattle.format.specs.Transcript.{putRule}
 use Rattle.format.proofs
 
 abbrev pub CountPromise : (List ℕ → ℕ) → Type 0
 CountPromise f =

@@ -12,9 +12,9 @@ use Rattle.read.specs.declared.Slot.{Slot}
 use Rattle.read.specs.Machine.{withUse, isOpen, openOn, noGuards, withReading, newSlot, shut}
 use Rattle.read.specs.Handles.{released}
 use Rattle.read.proofs.Computes.{rules}
 use Rattle.place.specs.declared.Released.{Released}
 use Rattle.place.specs.Release.{releaseRule}
-use Rattle.place.proofs.Promises.{Function, by-value, release, leave, has, Promise}
+use Rattle.promises.proofs.place.Promises.{Function, by-value, release, leave, has, Promise}
 
 -- each of the three says that the answer and the record are the rule's
 says : (k : Function) (f : ℕ → Slot → Released) → Promise k f → (j : ℕ) (s : Slot) → has (s, (j, tt)) ≡ true → f j s ≡ releaseRule j s

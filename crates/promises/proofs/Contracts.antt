@@ -1,4 +1,4 @@
--- What the promises of every crate are made of: a contract, as the check reads it from the source (`Post`), of the values that the
+-- What the promises are made of: a contract, as the check reads it from the source (`Post`), of the values that the
 -- parameters' types have (`Kinds.ps`).
 use Prim.Native.Nat.{ℕ, _^_}
 use mathlib.Core.Path.{_≡_}

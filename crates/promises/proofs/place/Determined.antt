@@ -15,13 +15,13 @@ use denote.Ref.{now}
 use denote.Triple.Entry.{Args}
 use Rattle.table.specs.declared.Answer.{Answer}
 use Rattle.read.specs.declared.Slot.{Slot}
 use Rattle.place.specs.declared.Released.{Released}
 use Rattle.place.specs.Release.{releaseRule}
-use Rattle.place.proofs.by_value.Reads as by-value
+use Rattle.place.proofs.Inner as inner
 use Rattle.place.proofs.leave.Reads as leave
 use Rattle.place.proofs.release as release
 
-by-value-determined : (κs : _) (a : _) (r q : _) (s t : _) → by-value.Post κs a r s → by-value.Post κs a q t → r ≡ q
+by-value-determined : (κs : _) (a : _) (r q : _) (s t : _) → inner.by-value .post κs a r s → inner.by-value .post κs a q t → r ≡ q
 by-value-determined κs a r q s t h l = h ∙ sym l
 
 leave-determined : (κs : _) (a : _) (r q : _) (s t : _) → leave.Post κs a r s → leave.Post κs a q t → r ≡ q

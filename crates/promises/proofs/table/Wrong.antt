@@ -7,17 +7,17 @@ use mathlib.Core.List.{List, [], _∷_, _++_}
 use lib.ListN.{length, getD, take, drop, set, replicate}
 use lib.Dec.{eqb, leb, ltb}
 use native.Mathlib.Omega.{arith}
 use Rattle.table.specs.declared.Answer.{Answer}
 use Rattle.table.specs.declared.Answer.the-variants.{Done, Length, Broken, Operation}
 use Rattle.table.specs.Answers.{number}
 use Rattle.table.specs.Seek.{seek}
 use Rattle.table.specs.Copy.{pairs, words, entries, spill, keyAt, countAt, usedOf, pairOf, placeOf, present, opened, closed, inserted, placed, added, dropped, removed, zeros, applied, lawful, fits, Out, applyRule, lookRule}
 use Rattle.table.proofs.Computes.{rules, apart}
 use Rattle.table.proofs.CopyWords.{getD-zeros}
 use Rattle.table.proofs.CopyFind.{added-cases}
-use Rattle.table.proofs.Contracts.{below, Words, slice}
-use Rattle.table.proofs.Promises.{NumberPromise, LawfulPromise, FitPromise, LookPromise, UsedPromise, ZeroPromise}
-use Rattle.table.proofs.Promises.{ClosePromise, ApplyPromise, AddPromise, DropPromise, ClearPromise}
+use Rattle.promises.proofs.Contracts.{below, Words, slice}
+use Rattle.promises.proofs.table.Promises.{NumberPromise, LawfulPromise, FitPromise, LookPromise, UsedPromise, ZeroPromise}
+use Rattle.promises.proofs.table.Promises.{ClosePromise, ApplyPromise, AddPromise, DropPromise, ClearPromise}
 
 -- ---- what the witnesses are made of
 

@@ -12,30 +12,32 @@ use Rattle.table.specs.declared.Answer.the-variants as answer
 use Rattle.read.specs.declared.Slot.{Slot}
 use Rattle.read.specs.declared.Due.the-variants.{Nothing}
 use Rattle.read.specs.declared.Phase.{Phase}
-use Rattle.read.specs.declared.Phase.the-variants.{Idle, Begin, Poll, Copy, Drain, Swap, Snap, Lock, Finish}
+use Rattle.read.specs.declared.Phase.the-variants.{Idle, Begin, Poll, Copy, Drain, Swap, Snap, Lock, LastPoll, Finish, Gone}
 use Rattle.read.specs.declared.Job.{Job}
 use Rattle.read.specs.declared.Job.the-variants.{Publish, Try, TakeFirst}
 use Rattle.read.specs.declared.Control.{Control}
+use Rattle.read.specs.declared.Verdict.{Verdict}
 use Rattle.read.specs.declared.Verdict.the-variants.{Admitted, Refused}
 use Rattle.read.specs.declared.State.{State}
 use Rattle.read.specs.declared.Reply.{Reply}
-use Rattle.read.specs.Machine.{standing, holding, freshControl, openOn, withReading, slotCount, logRoom, logWords, noGuards, noSlot, newSlot, underway, nulls, judged, fresh, row, place}
+use Rattle.read.specs.Machine.{standing, holding, freshControl, openOn, withReading, slotCount, logRoom, logWords, noGuards, noSlot, newSlot, underway, locks, nulls, judged, fresh, row, place}
 use Rattle.read.specs.Handles.{smallest, freed, copyOf, bit}
 use Rattle.read.specs.Calls.{Lent, lent, slotAt, refusal}
 use Rattle.write.specs.declared.Moved.{Moved}
 use Rattle.write.specs.declared.Opening.{Opening}
 use Rattle.write.specs.declared.Opening.the-variants as opening
 use Rattle.write.specs.declared.Call.the-variants as call
 use Rattle.write.specs.Steps.{at, withLog, swappedOver, draining, polling, beginning, lastPolling, holds, moved, refused, stopped, ofLeft, ofRight, operated, logApplied, over, unlogged, stepAt}
-use Rattle.write.specs.Begins.{writerSigns, madeAtOnce, appendFirst, appended, appendOn, columnOf, begun, value, opened}
+use Rattle.write.specs.Begins.{writerSigns, stepSigns, madeAtOnce, appendFirst, appended, appendOn, columnOf, begun, value, opened}
 use Rattle.write.specs.Runs.{snapAt, putBack, lift, stepOn, enough, runWhile}
 use Rattle.write.specs.Machine.{going, callRule}
 use Rattle.write.proofs.Cases.{withJob}
 use Rattle.table.proofs.Computes.{apart}
-use Rattle.table.proofs.Contracts.{Words, slice}
+use Rattle.promises.proofs.Contracts.{Words, slice}
 use Rattle.write.proofs.Computes.{rules}
-use Rattle.write.proofs.Promises.{Part, Whole, Beginning, HoldsPromise, PlacePromise, OpenOnPromise, AdvancePromise, AppendOnPromise}
-use Rattle.write.proofs.Promises.{AppendPromise, StepPromise, RunPromise, PublishPromise, TryPromise, FlushPromise, TakePromise}
+use Rattle.promises.proofs.write.Promises.{Part, Whole, Beginning, HoldsPromise, PlacePromise, OpenOnPromise, AdvancePromise, AppendOnPromise}
+use Rattle.promises.proofs.write.Promises.{UnderwayPromise, AtPromise, PollingPromise, LastPollingPromise, StepVerdictPromise}
+use Rattle.promises.proofs.write.Promises.{AppendPromise, StepPromise, RunPromise, PublishPromise, TryPromise, FlushPromise, TakePromise}
 use Rattle.read.proofs.Cases.{stateOf, withLock}
 
 -- ---- what the witnesses are made of
@@ -154,6 +156,54 @@ behind p = elim (eqb (row p) 7 || eqb (row p) 10) [ true ↦ (place p + 1) % slo
 behind-wrong : PlacePromise behind → ⊥
 unfolding rules
 behind-wrong h = apart (λ n. n) refl (h (Snap 3) refl)
+
+-- ---- the control part
+
+abbrev idle : Control
+idle = fresh .control
+
+-- a call is always under way; it is where the lock is held
+underway-always-wrong : UnderwayPromise (λ c. true) → ⊥
+underway-always-wrong h = apart bit refl (h idle refl)
+
+underway-locked-wrong : UnderwayPromise (λ c. locks (c .phase)) → ⊥
+underway-locked-wrong h = apart bit refl (h (fitting Begin Publish true true 0 0) refl)
+
+-- the phase stays; the lock is not taken
+at-stays-wrong : AtPromise (λ p c. c) → ⊥
+at-stays-wrong h = apart (λ c. row (c .phase)) refl (h Swap idle refl)
+
+at-unlocked-wrong : AtPromise (λ p c. withLock false (at p c)) → ⊥
+at-unlocked-wrong h = apart (λ c. bit (c .lock)) refl (h Swap idle refl)
+
+-- the polls never end; a slot is passed by
+polling-endless-wrong : PollingPromise (λ c k. Poll k) → ⊥
+polling-endless-wrong h = apart row refl (h idle slotCount refl)
+
+polling-skips-wrong : PollingPromise (λ c k. polling c (k + 1)) → ⊥
+unfolding rules
+polling-skips-wrong h = apart place refl (h idle 0 refl)
+
+lastPolling-endless-wrong : LastPollingPromise LastPoll → ⊥
+lastPolling-endless-wrong h = apart row refl (h slotCount refl)
+
+lastPolling-skips-wrong : LastPollingPromise (λ k. lastPolling (k + 1)) → ⊥
+unfolding rules
+lastPolling-skips-wrong h = apart place refl (h 0 refl)
+
+-- a step is always admitted; after take's finish it is refused as where nothing is under way
+abbrev verdict : Verdict → ℕ
+verdict Admitted = 0
+verdict (Refused a) = number a
+
+stepVerdict-admits-wrong : StepVerdictPromise (λ k c. Admitted) → ⊥
+unfolding rules
+stepVerdict-admits-wrong h = apart verdict refl (h 12 idle refl)
+
+stepVerdict-notNow-wrong :
+    StepVerdictPromise (λ k c. elim (smallest (stepSigns k c)) [ Admitted ↦ Admitted | Refused a ↦ Refused answer.NotNow ]) → ⊥
+unfolding rules
+stepVerdict-notNow-wrong h = apart verdict refl (h 12 (fitting Gone TakeFirst false false 0 0) refl)
 
 -- ---- advance
 

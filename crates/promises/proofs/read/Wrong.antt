@@ -10,36 +10,36 @@ use Rattle.table.specs.Answers.{number}
 use Rattle.table.specs.Seek.{seek}
 use Rattle.table.specs.Copy.{words, zeros, usedRule}
 use Rattle.table.specs.declared.Answer.the-variants as answer
 use Rattle.read.specs.declared.Due.{Due}
 use Rattle.read.specs.declared.Due.the-variants.{Nothing, Load, Restore}
 use Rattle.read.specs.declared.Guard.{Guard}
 use Rattle.read.specs.declared.Slot.{Slot}
 use Rattle.read.specs.declared.Job.the-variants.{Publish}
 use Rattle.read.specs.declared.Phase.{Phase}
 use Rattle.read.specs.declared.Phase.the-variants.{Idle, Poll, Gone}
 use Rattle.read.specs.declared.Control.{Control}
 use Rattle.read.specs.declared.State.{State}
 use Rattle.read.specs.declared.Handle.{Handle}
 use Rattle.read.specs.declared.Handle.the-variants.{Drop, Enter, GoOn, Release, LookUp, WasDropped}
 use Rattle.read.specs.declared.Verdict.{Verdict}
 use Rattle.read.specs.declared.Verdict.the-variants.{Admitted, Refused}
 use Rattle.read.specs.declared.Made.{Made}
 use Rattle.read.specs.declared.Reply.{Reply}
 use Rattle.read.specs.Machine.{standing, holding, openOn, withUse, withReading, slotCount, guardCount, logWords, shut, noGuards, isOpen, standsRight, putGuard, same, firstGuard, anyOpen, allOpen, isDue, isLoad, noSlot, newSlot, isGone, underway, wholeControl, glanced, judged, fresh, row}
 use Rattle.read.specs.Admission.{handleNumber, entry}
 use Rattle.read.specs.Handles.{mistimed, smallest, handleSigns, bumped, withDue, loaded, entered, wentOn, released, copyOf}
 use Rattle.read.specs.Calls.{slotAt, withSlot, refusal, Lent, lent, handleReply, firstFree, handleRule, createRule, viewRule, pairRule, startRule}
 use Rattle.table.proofs.Computes.{apart}
-use Rattle.table.proofs.Contracts.{Words, slice}
+use Rattle.promises.proofs.Contracts.{Words, slice}
 use Rattle.read.proofs.Computes.{rules}
-use Rattle.read.proofs.Promises.{RowPromise, EntryPromise, FirstGuardPromise, IsOpenPromise}
-use Rattle.read.proofs.Promises.{AnyOpenPromise, AllOpenPromise, IsDuePromise, IsLoadPromise, NoSlotPromise, NewSlotPromise}
-use Rattle.read.proofs.Promises.{FreedPromise, EnteredPromise, WentOnPromise, ReleasedPromise, VerdictPromise, GuardedCopyPromise}
-use Rattle.read.proofs.Promises.{HandlePromise, EitherPromise, LocksPromise, NullsPromise, SamePromise}
-use Rattle.read.proofs.Promises.{SizedPromise, GlancePromise, JudgePromise, StartPromise, CreatePromise, DropPromise, EnterPromise}
-use Rattle.read.proofs.Promises.{GoOnPromise, WasDroppedPromise, OnHandlePromise, ReleasePromise, LookUpPromise, ViewPromise}
-use Rattle.read.proofs.Promises.{PairPromise}
+use Rattle.promises.proofs.read.Promises.{FreshPromise, SlotAtPromise, RowPromise, EntryPromise, FirstGuardPromise, IsOpenPromise}
+use Rattle.promises.proofs.read.Promises.{AnyOpenPromise, AllOpenPromise, IsDuePromise, IsLoadPromise, NoSlotPromise, NewSlotPromise}
+use Rattle.promises.proofs.read.Promises.{FreedPromise, EnteredPromise, WentOnPromise, ReleasedPromise, VerdictPromise, GuardedCopyPromise}
+use Rattle.promises.proofs.read.Promises.{HandlePromise, EitherPromise, LocksPromise, SamePromise}
+use Rattle.promises.proofs.read.Promises.{SizedPromise, JudgePromise, StartPromise, CreatePromise, DropPromise, EnterPromise}
+use Rattle.promises.proofs.read.Promises.{GoOnPromise, WasDroppedPromise, OnHandlePromise, ReleasePromise, LookUpPromise, ViewPromise}
+use Rattle.promises.proofs.read.Promises.{PairPromise}
 use Rattle.read.proofs.Cases.{stateOf, withLock}
 
 -- ---- what the witnesses are made of
 
@@ -136,6 +136,22 @@ broken = withLock true idle
 
 abbrev unlawful : Control
 unlawful = holding false false false true 1 0 idle
+
+-- ---- the state
+
+-- the pointer begins on the right; the writer has no handle of its own
+freshRight-wrong : FreshPromise (controlled (holding true false true true 0 0 idle) fresh) → ⊥
+freshRight-wrong h = apart (λ st. bit (st .control .right)) refl (h refl)
+
+freshAlone-wrong : FreshPromise (withSlot 0 noSlot fresh) → ⊥
+freshAlone-wrong h = apart (λ st. bit (slotAt st 0 .used)) refl (h refl)
+
+-- always slot 0; past the last one in use
+slotZero-wrong : SlotAtPromise (λ st i. slotAt st 0) → ⊥
+slotZero-wrong h = apart (λ s. s .epoch) refl (h (machine (slotWith 4 noGuards Nothing)) 1 refl)
+
+slotPast-wrong : SlotAtPromise (λ st i. elim (ltb i slotCount) [ true ↦ slotAt st i | false ↦ newSlot ]) → ⊥
+slotPast-wrong h = apart (λ s. bit (s .used)) refl (h fresh slotCount refl)
 
 -- ---- admission
 
@@ -389,13 +405,6 @@ locks-underway-wrong h = apart bit refl (h Phase.Begin refl)
 locks-never-wrong : LocksPromise (λ p. false) → ⊥
 locks-never-wrong h = apart bit refl (h (Poll 0) refl)
 
--- the pointer is null after take alone; never
-nulls-gone-wrong : NullsPromise isGone → ⊥
-nulls-gone-wrong h = apart bit refl (h Phase.Finish refl)
-
-nulls-never-wrong : NullsPromise (λ p. false) → ⊥
-nulls-never-wrong h = apart bit refl (h Gone refl)
-
 -- ---- the judgement
 
 -- any log will do
@@ -412,11 +421,6 @@ sumSized l r g = eqb (length l + length r + length g) (words + words + logWords)
 sumSized-wrong : SizedPromise sumSized → ⊥
 sumSized-wrong h = apart bit refl (h noLog none none refl)
 
--- a glance that walks the log
-judged-glance-wrong : GlancePromise judged → ⊥
-unfolding rules
-judged-glance-wrong h = apart verdict refl (h unlawful none none noLog refl)
-
 -- a judgement that skips the log
 glanced-judge-wrong : JudgePromise glanced → ⊥
 unfolding rules
@@ -425,10 +429,6 @@ glanced-judge-wrong h = apart verdict refl (h unlawful none none noLog refl)
 -- broken is found before the length
 abbrev brokenFirst : (Control → List ℕ → List ℕ → List ℕ → Verdict) → Control → List ℕ → List ℕ → List ℕ → Verdict
 brokenFirst rule c l r g = elim (wholeControl c) [ true ↦ rule c l r g | false ↦ Refused answer.Broken ]
-
-brokenFirst-glance-wrong : GlancePromise (brokenFirst glanced) → ⊥
-unfolding rules
-brokenFirst-glance-wrong h = apart verdict refl (h broken none none noWords refl)
 
 brokenFirst-judge-wrong : JudgePromise (brokenFirst judged) → ⊥
 unfolding rules

@@ -9,7 +9,7 @@ use borrow.Author.Tests.{eqb-false}
 use lib.Dec.{eqb, leb}
 use lib.ListN.{length, getD, take, drop, set, replicate}
 use Rattle.table.proofs.Computes.{apart}
-use Rattle.table.proofs.Contracts.{Bytes, slice}
+use Rattle.promises.proofs.Contracts.{Bytes, slice}
 use Rattle.table.specs.declared.Answer.the-variants as answer
 use Rattle.read.specs.Calls.{lent}
 use Rattle.write.specs.declared.Call.{Call}
@@ -19,13 +19,13 @@ use Rattle.write.specs.World.{Machine, freshWorld, played}
 use Rattle.format.specs.declared.Flaw.{Flaw}
 use Rattle.format.specs.Schedule.{numberAt, bytesOf, headBytes, recordBytes, count, fieldsAt, flawOf}
 use Rattle.format.specs.Transcript.{entryBytes, entryOf, entriesOf}
-use Rattle.format.proofs.Wrong.{unknownFirst}
+use Rattle.promises.proofs.format.Wrong.{unknownFirst}
 use Rattle.play.specs.Schedule.{callOf, decoded, callsFrom}
 use Rattle.play.specs.Player.{transcript, refusalOf, Output, output, playRule}
 use Rattle.play.specs.Refusals.{Player, Applies, Refusals}
 use Rattle.play.proofs.Computes.{rules}
 use Rattle.play.proofs.Ends.{head, recordOf, p1}
-use Rattle.play.proofs.Promises.{PlayPromise}
+use Rattle.promises.proofs.play.Promises.{PlayPromise}
 
 -- ---- what the witnesses are made of
 

@@ -2,11 +2,11 @@
 use Prim.Native.Nat.{ℕ}
 use mathlib.Core.Bool.{Bool}
 use mathlib.Core.List.{List}
 use Rattle.table.specs.declared.Answer.{Answer}
 use Rattle.table.specs.Answers.{number}
 use Rattle.table.specs.Copy.{zeros, lawful, fitness, Out, applyRule, lookRule, usedRule, closeRule}
-use Rattle.table.proofs.Contracts.{typed, Words, Ref, ref, κ₁, Leaves, Keeps, Keeps1}
+use Rattle.promises.proofs.Contracts.{typed, Words, Ref, ref, κ₁, Leaves, Keeps, Keeps1}
 use Rattle.table.proofs
 
 -- ---- of numbers
 

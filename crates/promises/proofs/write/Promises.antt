@@ -1,9 +1,9 @@
--- Each public contract as a promise of any program, a program being a function of the arguments (`table`'s `Contracts`).
+-- Each public contract as a promise of any program, a program being a function of the arguments (`Contracts`).
 use Prim.Native.Nat.{ℕ}
 use mathlib.Core.Path.{_≡_, refl}
 use mathlib.Core.Bool.{Bool}
 use mathlib.Core.List.{List}
-use Rattle.table.proofs.Contracts.{typed, Words, Refs, refs, lends, κ₃, Leaves, Keeps, Keeps1, Keeps2}
+use Rattle.promises.proofs.Contracts.{typed, Words, Refs, refs, lends, κ₃, Leaves, Keeps, Keeps1, Keeps2}
 use Rattle.read.specs.declared.Slot.{Slot}
 use Rattle.read.specs.declared.Phase.{Phase}
 use Rattle.read.specs.declared.Control.{Control}
@@ -11,16 +11,18 @@ use Rattle.read.specs.declared.Verdict.{Verdict}
 use Rattle.read.specs.declared.Verdict.the-variants.{Admitted, Refused}
 use Rattle.read.specs.declared.State.{State}
 use Rattle.read.specs.declared.Reply.{Reply}
-use Rattle.read.specs.Machine.{judged, place}
+use Rattle.read.specs.Machine.{judged, place, underway}
+use Rattle.read.specs.Handles.{smallest}
 use Rattle.read.specs.Calls.{Lent, lent, refusal}
 use Rattle.write.specs.declared.Moved.{Moved}
 use Rattle.write.specs.declared.Opening.{Opening}
 use Rattle.write.specs.declared.Opening.the-variants.{Publish, Try, Flush, Take}
 use Rattle.write.specs.declared.Call.the-variants.{Append, Open, Step, Run}
-use Rattle.write.specs.Steps.{holds, stepAt}
-use Rattle.write.specs.Begins.{appendOn, openOn}
+use Rattle.write.specs.Steps.{at, polling, lastPolling, holds, stepAt}
+use Rattle.write.specs.Begins.{stepSigns, appendOn, openOn}
 use Rattle.write.specs.Machine.{callOn, callRule}
 use Rattle.write.proofs
+use Rattle.machine.proofs as whole
 
 -- ---- on one slot
 
@@ -34,6 +36,22 @@ abbrev pub OpenOnPromise : (Opening → Control → Slot → ℕ → Moved) → 
 OpenOnPromise f =
     (o : Opening) (c : Control) (s : Slot) (e : ℕ) →
     Keeps (typed tt proofs.begins.open_on.Kinds.ps) (proofs.begins.open_on.Reads.Post tt) (o, (c, (s, (e, tt)))) (f o c s e)
+
+-- on the control part alone
+abbrev pub UnderwayPromise : (Control → Bool) → Type 0
+UnderwayPromise = Keeps1 (typed tt proofs.phases.underway.Kinds.ps) (proofs.phases.underway.Reads.Post tt)
+
+abbrev pub AtPromise : (Phase → Control → Control) → Type 0
+AtPromise = Keeps2 (typed tt proofs.phases.at.Kinds.ps) (proofs.phases.at.Reads.Post tt)
+
+abbrev pub PollingPromise : (Control → ℕ → Phase) → Type 0
+PollingPromise = Keeps2 (typed tt proofs.phases.polling.Kinds.ps) (proofs.phases.polling.Reads.Post tt)
+
+abbrev pub LastPollingPromise : (ℕ → Phase) → Type 0
+LastPollingPromise = Keeps1 (typed tt proofs.phases.last_polling.Kinds.ps) (proofs.phases.last_polling.Reads.Post tt)
+
+abbrev pub StepVerdictPromise : (ℕ → Control → Verdict) → Type 0
+StepVerdictPromise = Keeps2 (typed tt proofs.begins.step_verdict.Kinds.ps) (proofs.begins.step_verdict.Reads.Post tt)
 
 -- on the control part, one slot with its snapshot, and the lent words
 abbrev pub Part : Type 0
@@ -64,7 +82,7 @@ abbrev pub AppendPromise : (ℕ → ℕ → ℕ → Whole) → Type 0
 AppendPromise f =
     (kind key amount : ℕ) (st : State) (l r g : Words) →
     let o = f kind key amount st (l .list) (r .list) (g .list) in
-    Leaves (typed κ₃ proofs.append.Kinds.ps) (proofs.append.Reads.Post κ₃) (st, (kind, (key, (amount, lends l r g)))) (o .made)
+    Leaves (typed κ₃ whole.append.Kinds.ps) (whole.append.Reads.Post κ₃) (st, (kind, (key, (amount, lends l r g)))) (o .made)
     (st, (kind, (key, (amount, refs (o .left) (o .right) (o .log)))))
 
 abbrev Changes : (State × Refs → Bool) → (State × Refs → Reply → State × Refs → Type 0) → Whole → Type 0
@@ -74,10 +92,10 @@ Changes has post f =
     Leaves has post (st, lends l r g) (o .made) (st, refs (o .left) (o .right) (o .log))
 
 abbrev pub StepPromise : Whole → Type 0
-StepPromise = Changes (typed κ₃ proofs.step.Kinds.ps) (proofs.step.Reads.Post κ₃)
+StepPromise = Changes (typed κ₃ whole.step.Kinds.ps) (whole.step.Reads.Post κ₃)
 
 abbrev pub RunPromise : Whole → Type 0
-RunPromise = Changes (typed κ₃ proofs.run.Kinds.ps) (proofs.run.Reads.Post κ₃)
+RunPromise = Changes (typed κ₃ whole.run.Kinds.ps) (whole.run.Reads.Post κ₃)
 
 -- a beginning changes no word
 abbrev pub Beginning : Type 0
@@ -87,16 +105,16 @@ abbrev Begins : (State × Refs → Bool) → (State × Refs → Reply → State 
 Begins has post f = (st : State) (l r g : Words) → Keeps has post (st, lends l r g) (f st (l .list) (r .list) (g .list))
 
 abbrev pub PublishPromise : Beginning → Type 0
-PublishPromise = Begins (typed κ₃ proofs.publish.Kinds.ps) (proofs.publish.Reads.Post κ₃)
+PublishPromise = Begins (typed κ₃ whole.publish.Kinds.ps) (whole.publish.Reads.Post κ₃)
 
 abbrev pub TryPromise : Beginning → Type 0
-TryPromise = Begins (typed κ₃ proofs.try_publish.Kinds.ps) (proofs.try_publish.Reads.Post κ₃)
+TryPromise = Begins (typed κ₃ whole.try_publish.Kinds.ps) (whole.try_publish.Reads.Post κ₃)
 
 abbrev pub FlushPromise : Beginning → Type 0
-FlushPromise = Begins (typed κ₃ proofs.flush.Kinds.ps) (proofs.flush.Reads.Post κ₃)
+FlushPromise = Begins (typed κ₃ whole.flush.Kinds.ps) (whole.flush.Reads.Post κ₃)
 
 abbrev pub TakePromise : Beginning → Type 0
-TakePromise = Begins (typed κ₃ proofs.take.Kinds.ps) (proofs.take.Reads.Post κ₃)
+TakePromise = Begins (typed κ₃ whole.take.Kinds.ps) (whole.take.Reads.Post κ₃)
 
 -- ---- the rules keep them: no promise is false of every program
 
@@ -111,7 +129,8 @@ begin-leaves o st l r g =
     by (judged (st .control) l r g)
 
 pub kept :
-    HoldsPromise holds × PlacePromise place × OpenOnPromise openOn × AdvancePromise (λ c. stepAt (c .phase) c) × AppendOnPromise appendOn
+    HoldsPromise holds × PlacePromise place × UnderwayPromise (λ c. underway (c .phase)) × AtPromise at
+    × PollingPromise polling × LastPollingPromise lastPolling × StepVerdictPromise (λ k c. smallest (stepSigns k c)) × OpenOnPromise openOn × AdvancePromise (λ c. stepAt (c .phase) c) × AppendOnPromise appendOn
     × AppendPromise (λ kind key amount. callRule (Append kind key amount)) × StepPromise (callRule Step) × RunPromise (callRule Run)
     × PublishPromise (begin Publish) × TryPromise (begin Try) × FlushPromise (begin Flush) × TakePromise (begin Take)
 kept = search begin-leaves

@@ -1,0 +1,4 @@
+-- The public contracts of `table`.
+pub mod Promises
+pub mod Determined
+pub mod Wrong

@@ -1,0 +1,1 @@
+// What each public contract promises, that it determines, and the wrong programs that it stops (proofs/). There is no code here.
