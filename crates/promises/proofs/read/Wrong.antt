@@ -148,9 +148,11 @@ freshAlone-wrong h = apart (λ st. bit (slotAt st 0 .used)) refl (h refl)
 
 -- always slot 0; past the last one in use
 slotZero-wrong : SlotAtPromise (λ st i. slotAt st 0) → ⊥
+unfolding rules
 slotZero-wrong h = apart (λ s. s .epoch) refl (h (machine (slotWith 4 noGuards Nothing)) 1 refl)
 
 slotPast-wrong : SlotAtPromise (λ st i. elim (ltb i slotCount) [ true ↦ slotAt st i | false ↦ newSlot ]) → ⊥
+unfolding rules
 slotPast-wrong h = apart (λ s. bit (s .used)) refl (h fresh slotCount refl)
 
 -- ---- admission

@@ -178,6 +178,7 @@ at-unlocked-wrong h = apart (λ c. bit (c .lock)) refl (h Swap idle refl)
 
 -- the polls never end; a slot is passed by
 polling-endless-wrong : PollingPromise (λ c k. Poll k) → ⊥
+unfolding rules
 polling-endless-wrong h = apart row refl (h idle slotCount refl)
 
 polling-skips-wrong : PollingPromise (λ c k. polling c (k + 1)) → ⊥
@@ -185,6 +186,7 @@ unfolding rules
 polling-skips-wrong h = apart place refl (h idle 0 refl)
 
 lastPolling-endless-wrong : LastPollingPromise LastPoll → ⊥
+unfolding rules
 lastPolling-endless-wrong h = apart row refl (h slotCount refl)
 
 lastPolling-skips-wrong : LastPollingPromise (λ k. lastPolling (k + 1)) → ⊥
