@@ -1,5 +1,7 @@
 -- By whether a guard stays open.
+use native.Mathlib.Omega.{arith}
 use borrow.Author.Needs.{needs}
+use Rattle.table.proofs.Needs.{all4}
 use Rattle.read.proofs.Cases.{released-one, released-last}
 use Rattle.read.proofs.guards.released.Statement.{statement}
 use Rattle.read.proofs.guards.released.Tie as tie
@@ -18,5 +20,4 @@ returns-2 c =
 
 pub released-spec : {M : Type 1} → statement M
 released-spec =
-    tie.close
-    (tie.spec (λ c κs. search needs) (λ c κs. search needs) (λ c κs. search needs) (λ c κs. search needs) returns (λ c κs. search needs) (λ c κs. search needs) returns-2)
+    tie.close (all4 tie.spec (omega arith) returns (λ c κs. search needs) (λ c κs. search needs) returns-2)

@@ -1,5 +1,6 @@
 -- What speaks against the call decides.
-use borrow.Author.Needs.{needs}
+use native.Mathlib.Omega.{arith}
+use Rattle.table.proofs.Needs.{all10}
 use Rattle.write.proofs.Made.{append-admitted, append-refused}
 use Rattle.write.proofs.begins.append_on.Statement.{statement}
 use Rattle.write.proofs.begins.append_on.Tie as tie
@@ -16,17 +17,4 @@ returns-2 c =
 
 pub append-on-spec : {M : Type 1} → statement M
 append-on-spec =
-    tie.close
-    (tie.spec
-    (λ c κs. search needs)
-    (λ c κs. search needs)
-    (λ c κs. search needs)
-    (λ c. search needs)
-    (λ c κs. search needs)
-    (λ c. search needs)
-    (λ c κs. search needs)
-    (λ c. search needs)
-    (λ c. search needs)
-    (λ c. search needs)
-    returns
-    returns-2)
+    tie.close (all10 tie.spec (omega arith) returns returns-2)

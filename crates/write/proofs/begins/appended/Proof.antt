@@ -1,5 +1,7 @@
 -- One law for each arm.
+use native.Mathlib.Omega.{arith}
 use borrow.Author.Needs.{needs}
+use Rattle.table.proofs.Needs.{all5}
 use Rattle.write.proofs.Made.{appended-first, appended-later, appended-full}
 use Rattle.write.proofs.begins.appended.Statement.{statement}
 use Rattle.write.proofs.begins.appended.Tie as tie
@@ -21,19 +23,4 @@ returns-3 c =
 
 pub appended-spec : {M : Type 1} → statement M
 appended-spec =
-    tie.close
-    (tie.spec
-    (λ c κs. search needs)
-    (λ c κs. search needs)
-    (λ c κs. search needs)
-    (λ c. search needs)
-    (λ c. search needs)
-    returns
-    (λ c κs. search needs)
-    (λ c. search needs)
-    (λ c κs. search needs)
-    (λ c κs. search needs)
-    (λ c. search needs)
-    returns-2
-    (λ c κs. search needs)
-    returns-3)
+    tie.close (all5 (all5 tie.spec (omega arith) returns) (omega arith) returns-2 (λ c κs. search needs) returns-3)

@@ -1,5 +1,6 @@
 -- What speaks against the call decides.
-use borrow.Author.Needs.{needs}
+use native.Mathlib.Omega.{arith}
+use Rattle.table.proofs.Needs.{all6}
 use Rattle.write.proofs.Made.{open-admitted, open-refused}
 use Rattle.write.proofs.begins.open_on.Statement.{statement}
 use Rattle.write.proofs.begins.open_on.Tie as tie
@@ -16,13 +17,4 @@ returns-2 c =
 
 pub open-on-spec : {M : Type 1} → statement M
 open-on-spec =
-    tie.close
-    (tie.spec
-    (λ c κs. search needs)
-    (λ c κs. search needs)
-    (λ c. search needs)
-    (λ c κs. search needs)
-    (λ c. search needs)
-    (λ c κs. search needs)
-    returns
-    returns-2)
+    tie.close (all6 tie.spec (omega arith) returns returns-2)

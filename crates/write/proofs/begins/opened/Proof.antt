@@ -1,5 +1,6 @@
 -- One law for each arm.
-use borrow.Author.Needs.{needs}
+use native.Mathlib.Omega.{arith}
+use Rattle.table.proofs.Needs.{all5, all9}
 use Rattle.write.proofs.Made.{opened-publish, opened-try, opened-flush, opened-idle, opened-take}
 use Rattle.write.proofs.begins.opened.Statement.{statement}
 use Rattle.write.proofs.begins.opened.Tie as tie
@@ -31,24 +32,4 @@ returns-5 c =
 
 pub opened-spec : {M : Type 1} → statement M
 opened-spec =
-    tie.close
-    (tie.spec
-    (λ c. search needs)
-    (λ c κs. search needs)
-    (λ c κs. search needs)
-    (λ c. search needs)
-    (λ c κs. search needs)
-    (λ c κs. search needs)
-    (λ c. search needs)
-    (λ c κs. search needs)
-    (λ c κs. search needs)
-    returns
-    (λ c κs. search needs)
-    (λ c. search needs)
-    (λ c κs. search needs)
-    (λ c κs. search needs)
-    (λ c κs. search needs)
-    returns-2
-    returns-3
-    returns-4
-    returns-5)
+    tie.close (all5 (all9 tie.spec (omega arith) returns) (omega arith) returns-2 returns-3 returns-4 returns-5)

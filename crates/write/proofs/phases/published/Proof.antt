@@ -1,5 +1,7 @@
 -- The one arm with a test.
+use native.Mathlib.Omega.{arith}
 use borrow.Author.Needs.{needs}
+use Rattle.table.proofs.Needs.{all3}
 use Rattle.write.proofs.Next.{published-more, published-last}
 use Rattle.write.proofs.phases.published.Statement.{statement}
 use Rattle.write.proofs.phases.published.Tie as tie
@@ -16,14 +18,4 @@ returns-4 c =
 
 pub published-spec : {M : Type 1} → statement M
 published-spec =
-    tie.close
-    (tie.spec
-    (λ c. search needs)
-    (λ c. search needs)
-    (λ c. search needs)
-    returns
-    (λ c. search needs)
-    (λ c. search needs)
-    (λ c. search needs)
-    returns-4
-    (λ c. search needs))
+    tie.close (all3 tie.spec (omega arith) returns (λ c. search needs) (λ c. search needs) (λ c. search needs) returns-4 (λ c. search needs))

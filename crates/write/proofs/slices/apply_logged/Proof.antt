@@ -1,5 +1,6 @@
 -- The three words of the operation, where the log has room for it.
-use borrow.Author.Needs.{needs}
+use native.Mathlib.Omega.{arith}
+use Rattle.table.proofs.Needs.{all8}
 use Rattle.write.proofs.Lent.{logged-applied, logged-beyond}
 use Rattle.write.proofs.slices.apply_logged.Statement.{statement}
 use Rattle.write.proofs.slices.apply_logged.Tie as tie
@@ -16,15 +17,4 @@ returns-2 c =
 
 pub apply-logged-spec : {M : Type 1} → statement M
 apply-logged-spec =
-    tie.close
-    (tie.spec
-    (λ c. search needs)
-    (λ c κs. search needs)
-    (λ c. search needs)
-    (λ c κs. search needs)
-    (λ c. search needs)
-    (λ c κs. search needs)
-    (λ c κs. search needs)
-    (λ c. search needs)
-    returns
-    returns-2)
+    tie.close (all8 tie.spec (omega arith) returns returns-2)

@@ -1,5 +1,6 @@
 -- Three words, one after the other.
-use borrow.Author.Needs.{needs}
+use native.Mathlib.Omega.{arith}
+use Rattle.table.proofs.Needs.{all7}
 use Rattle.write.proofs.Lent.{logged-put}
 use Rattle.write.proofs.slices.enlog.Statement.{statement}
 use Rattle.write.proofs.slices.enlog.Tie as tie
@@ -11,13 +12,4 @@ returns c =
 
 pub enlog-spec : {M : Type 1} → statement M
 enlog-spec =
-    tie.close
-    (tie.spec
-    (λ c. search needs)
-    (λ c κs. search needs)
-    (λ c. search needs)
-    (λ c κs. search needs)
-    (λ c. search needs)
-    (λ c κs. search needs)
-    (λ c. search needs)
-    returns)
+    tie.close (all7 tie.spec (omega arith) returns)

@@ -2,6 +2,7 @@
 use mathlib.Core.Path.{refl}
 use native.Mathlib.Omega.{arith}
 use borrow.Author.Needs.{needs}
+use Rattle.table.proofs.Needs.{all5}
 use Rattle.write.proofs.Lent.{unlogged-room, unlogged-beyond}
 use Rattle.write.proofs.slices.unlog.Statement.{statement}
 use Rattle.write.proofs.slices.unlog.Tie as tie
@@ -23,14 +24,4 @@ returns-3 c =
 
 pub unlog-spec : {M : Type 1} → statement M
 unlog-spec =
-    tie.close
-    (tie.spec
-    (λ c κs. search needs)
-    (λ c. search needs)
-    (λ c. search needs)
-    (λ c κs. search needs)
-    (λ c. search needs)
-    returns
-    (λ c. search needs)
-    returns-2
-    returns-3)
+    tie.close (all5 tie.spec (omega arith) returns (λ c. search needs) returns-2 returns-3)

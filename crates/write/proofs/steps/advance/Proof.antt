@@ -1,5 +1,7 @@
 -- One law for each phase.
+use native.Mathlib.Omega.{arith}
 use borrow.Author.Needs.{needs}
+use Rattle.table.proofs.Needs.{all3, all15, all16}
 use Rattle.write.proofs.Arms.{step-idle, step-begin, step-poll, step-copy, step-drain, step-keep, step-swap, step-snap, step-null, step-lock, step-last-snap, step-last-poll, step-finish, step-gone}
 use Rattle.write.proofs.steps.advance.Statement.{statement}
 use Rattle.write.proofs.steps.advance.Tie as tie
@@ -76,77 +78,4 @@ returns-14 c =
 
 pub advance-spec : {M : Type 1} → statement M
 advance-spec =
-    tie.close
-    (tie.spec
-    (λ c. search needs)
-    (λ c κs. search needs)
-    (λ c. search needs)
-    (λ c κs. search needs)
-    (λ c κs. search needs)
-    (λ c. search needs)
-    (λ c κs. search needs)
-    (λ c. search needs)
-    (λ c κs. search needs)
-    (λ c κs. search needs)
-    (λ c κs. search needs)
-    (λ c κs. search needs)
-    (λ c. search needs)
-    (λ c κs. search needs)
-    (λ c κs. search needs)
-    (λ c κs. search needs)
-    (λ c κs. search needs)
-    (λ c. search needs)
-    (λ c κs. search needs)
-    (λ c κs. search needs)
-    (λ c κs. search needs)
-    (λ c. search needs)
-    (λ c κs. search needs)
-    (λ c κs. search needs)
-    (λ c. search needs)
-    (λ c κs. search needs)
-    (λ c κs. search needs)
-    (λ c κs. search needs)
-    (λ c. search needs)
-    (λ c κs. search needs)
-    (λ c κs. search needs)
-    (λ c. search needs)
-    (λ c κs. search needs)
-    (λ c. search needs)
-    (λ c κs. search needs)
-    (λ c κs. search needs)
-    (λ c κs. search needs)
-    (λ c. search needs)
-    (λ c κs. search needs)
-    (λ c. search needs)
-    (λ c κs. search needs)
-    (λ c κs. search needs)
-    (λ c κs. search needs)
-    (λ c κs. search needs)
-    (λ c κs. search needs)
-    (λ c. search needs)
-    (λ c κs. search needs)
-    returns
-    returns-2
-    returns-3
-    (λ c. search needs)
-    (λ c. search needs)
-    returns-4
-    (λ c. search needs)
-    (λ c. search needs)
-    (λ c. search needs)
-    returns-5
-    (λ c. search needs)
-    (λ c. search needs)
-    (λ c. search needs)
-    returns-6
-    returns-7
-    returns-8
-    returns-9
-    returns-10
-    returns-11
-    returns-12
-    (λ c. search needs)
-    (λ c. search needs)
-    (λ c. search needs)
-    returns-13
-    returns-14)
+    tie.close (all3 (all3 (all3 (all15 (all16 (all16 tie.spec (omega arith)) (omega arith)) (omega arith) returns returns-2 returns-3 (λ c. search needs) (λ c. search needs) returns-4) (omega arith) returns-5) (omega arith) returns-6 returns-7 returns-8 returns-9 returns-10 returns-11 returns-12) (omega arith) returns-13 returns-14)

@@ -1,5 +1,6 @@
 -- By the job.
-use borrow.Author.Needs.{needs}
+use native.Mathlib.Omega.{arith}
+use Rattle.table.proofs.Needs.{all8}
 use Rattle.write.proofs.Next.{stopped-by, stopped-try}
 use Rattle.write.proofs.steps.stopped.Statement.{statement}
 use Rattle.write.proofs.steps.stopped.Tie as tie
@@ -26,17 +27,4 @@ returns-4 c =
 
 pub stopped-spec : {M : Type 1} → statement M
 stopped-spec =
-    tie.close
-    (tie.spec
-    (λ c. search needs)
-    (λ c κs. search needs)
-    (λ c. search needs)
-    (λ c κs. search needs)
-    (λ c. search needs)
-    (λ c κs. search needs)
-    (λ c. search needs)
-    (λ c κs. search needs)
-    returns
-    returns-2
-    returns-3
-    returns-4)
+    tie.close (all8 tie.spec (omega arith) returns returns-2 returns-3 returns-4)
