@@ -3,6 +3,7 @@ use native.Mathlib.Omega.{arith}
 use lib.Seq.{length-take-le}
 use mathlib.Core.Path.{sym}
 use borrow.Author.Needs.{needs}
+use Rattle.table.proofs.Needs.{all4}
 use Rattle.tell.proofs.text.Statement.{statement}
 use Rattle.tell.proofs.text.Tie as tie
 
@@ -11,11 +12,4 @@ slice-aggregate-result-2 c = sym (length-take-le _ _ (omega arith))
 
 pub text-spec : {M : Type 1} → statement M
 text-spec =
-    tie.close
-    (tie.spec
-    (λ c. search needs)
-    (λ c κs. search needs)
-    (λ c. search needs)
-    (λ c. search needs)
-    slice-aggregate-result-2
-    (λ c. search needs))
+    tie.close (all4 tie.spec (omega arith) slice-aggregate-result-2 (λ c. search needs))

@@ -1,7 +1,8 @@
 -- The loop goes over every byte from the place on.
 use Prim.Native.Nat.{_≤_, _-_}
 use lib.ListN.{length}
-use borrow.Author.Needs.{needs}
+use native.Mathlib.Omega.{arith}
+use Rattle.table.proofs.Needs.{all7}
 use Rattle.tell.proofs.until.Statement.{statement}
 use Rattle.tell.proofs.until.Tie as tie
 
@@ -13,14 +14,4 @@ abbrev μ-loop : tie.MeasureT-loop
 
 pub until-spec : {M : Type 1} → statement M
 until-spec =
-    tie.close
-    (tie.spec
-    Inv-loop
-    μ-loop
-    (λ c. search needs)
-    (λ c. search needs)
-    (λ c. search needs)
-    (λ c. search needs)
-    (λ c. search needs)
-    (λ c. search needs)
-    (λ c. search needs))
+    tie.close (all7 (tie.spec Inv-loop μ-loop) (omega arith))
