@@ -70,7 +70,8 @@ fn say_part(p: &[u64]) {
 }
 
 fn say_apart(a: &[u64], b: &[u64]) {
-    say(b" -> ", tell::apart(a, b));
+    let d = tell::apart(a, b);
+    say(b" -> ", d.words);
 }
 
 // The release in place, on the record of a slot.

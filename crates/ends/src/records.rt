@@ -8,6 +8,7 @@ use read::Phase;
 use read::SLOTS;
 use read::Slot;
 use read::State;
+use read::admission::row;
 use tell::one_if;
 use tell::put;
 use tell::put_name;
@@ -57,25 +58,6 @@ fn job_of(x: u64) -> Job {
     }
 }
 
-fn row(p: Phase) -> u64 {
-    match p {
-        Phase::Idle => 0,
-        Phase::Begin => 1,
-        Phase::Poll(_) => 2,
-        Phase::Copy => 3,
-        Phase::Drain => 4,
-        Phase::Keep(_) => 5,
-        Phase::Swap => 6,
-        Phase::Snap(_) => 7,
-        Phase::Null => 8,
-        Phase::Lock => 9,
-        Phase::LastSnap(_) => 10,
-        Phase::LastPoll(_) => 11,
-        Phase::Finish => 12,
-        Phase::Gone => 13,
-    }
-}
-
 fn position(p: Phase) -> u64 {
     match p {
         Phase::Poll(k) => k as u64,
@@ -118,7 +100,7 @@ fn numbers(c: Control) -> [u64; NUMBERS] {
         c.length as u64,
         c.swapped as u64,
         job_number(j),
-        row(p),
+        row(p) as u64,
         position(p),
     ]
 }

@@ -29,12 +29,12 @@ use Rattle.write.specs.declared.Moved.{Moved}
 use Rattle.write.specs.declared.Call.{Call}
 use Rattle.write.specs.declared.Call.the-variants.{Create, On, Append, Open, Step, Run}
 use Rattle.write.specs.Numbers.{isStep, isRun}
-use Rattle.write.specs.Steps.{holds, refused, moved, stopped, pollMove, lastPollMove, stepAt, at, polling}
+use Rattle.write.specs.Steps.{holds, refused, moved, stopped, lastPollMove, stepAt, at, polling}
 use Rattle.write.specs.Begins.{stepSigns}
 use Rattle.write.specs.Runs.{lift, stepOn, afterStep, runOn}
 use Rattle.write.specs.Machine.{going, callOn}
 use Rattle.write.specs.World.{answerOf, valueOf, worldOf}
-use Rattle.write.proofs.Left.{step-value, step-lowers, manySteps, left-small}
+use Rattle.write.proofs.Left.{usedAs, step-slot, step-value, step-lowers, manySteps, left-small}
 use Rattle.write.proofs.NeverBroken.{Sound, sound-step}
 use Rattle.play.specs.declared.turns.Far.{Far}
 use Rattle.play.specs.Player.{machine}
@@ -304,42 +304,6 @@ going-begins k p c ss es l r g h {i} e q x =
     (going-starts k p c ss es l r g h)
 
 -- ---- a step of it
-
--- a step changes no more of a slot than whether it is in use
-abbrev pub usedAs : Slot → Slot → Slot
-usedAs s t = record { used = t .used; epoch = s .epoch; guards = s .guards; due = s .due }
-
-module _ (c : Control) (s : Slot) (e : ℕ) (l r g : List ℕ) where
-  stopped-slot : (j : Job) → stopped j c s e .slot ≡ s
-  stopped-slot Publish = refl
-  stopped-slot Try = refl
-  stopped-slot TakeFirst = refl
-  stopped-slot TakeSecond = refl
-
-  poll-slot : (held : Bool) (k : ℕ) → pollMove held k c s e .slot ≡ usedAs s (pollMove held k c s e .slot)
-  poll-slot true k = stopped-slot (c .job) ∙ ap (usedAs s) (sym (stopped-slot (c .job)))
-  poll-slot false k = refl
-
-  lastPoll-slot : (held : Bool) (k : ℕ) → lastPollMove held k c s e .slot ≡ usedAs s (lastPollMove held k c s e .slot)
-  lastPoll-slot true k = refl
-  lastPoll-slot false k = refl
-
-  step-slot : (p : Phase) → stepAt p c s e l r g .made .slot ≡ usedAs s (stepAt p c s e l r g .made .slot)
-  unfolding stepAt
-  step-slot Idle = refl
-  step-slot Begin = refl
-  step-slot (Poll k) = poll-slot (holds s e) k
-  step-slot Copy = refl
-  step-slot Drain = refl
-  step-slot (Keep k) = refl
-  step-slot Swap = refl
-  step-slot (Snap k) = refl
-  step-slot Null = refl
-  step-slot Lock = refl
-  step-slot (LastSnap k) = refl
-  step-slot (LastPoll k) = lastPoll-slot (holds s e) k
-  step-slot Finish = refl
-  step-slot Gone = refl
 
 module _ {o : Lent Reply} {run : Bool} {n : ℕ} {c : Control} {ss : List Slot} {es l r g : List ℕ} (v : Goes o run n c ss es l r g)
     (h : Sound (stateOf c ss es) l r g) {i : ℕ} (p : i ≡ place (c .phase)) {s : Slot} (q : s ≡ getD ss i noSlot) {m : Moved} {l' r' g' : List ℕ}

@@ -1,4 +1,5 @@
 -- The laws of the count table.
+pub mod Needs
 pub mod Contract
 pub mod Split
 pub mod Seek

@@ -209,17 +209,6 @@ pub fn one_if(b: bool) -> u64
     if b { 1 } else { 0 }
 }
 
-// How many words of `b` are not those of `a`.
-pub fn apart(a: &[u64], b: &[u64]) -> u64 {
-    let mut n: u64 = 0;
-    let mut i = 0;
-    while i < b.len() {
-        n += one_if(at(a, i) != b[i]);
-        i += 1;
-    }
-    n
-}
-
 fn mix(h: u64, x: u64) -> u64 {
     h % PRIME * 31 + x % PRIME
 }
@@ -232,15 +221,26 @@ fn mix_word(h: u64, i: usize, x: u64, y: u64) -> u64 {
     mix(mix(h, i as u64), y)
 }
 
-// A number that the words of `b` that are not those of `a` make.
-fn digest(a: &[u64], b: &[u64]) -> u64 {
+// The words of `b` that are not those of `a`: how many, and a number that they make.
+pub struct Differing {
+    pub words: u64,
+    pub digest: u64,
+}
+
+pub fn apart(a: &[u64], b: &[u64]) -> Differing {
+    let mut n: u64 = 0;
     let mut h: u64 = 0;
     let mut i = 0;
     while i < b.len() {
-        h = mix_word(h, i, at(a, i), b[i]);
+        let x = at(a, i);
+        n += one_if(x != b[i]);
+        h = mix_word(h, i, x, b[i]);
         i += 1;
     }
-    h
+    Differing {
+        words: n,
+        digest: h,
+    }
 }
 
 fn say_word(i: usize, x: u64) {
@@ -261,15 +261,15 @@ fn list(a: &[u64], b: &[u64]) {
 
 // What became of words `a`, under a name; nothing where they are the same.
 pub fn say_words(name: &[u8], a: &[u64], b: &[u64]) {
-    let n = apart(a, b);
-    if n == 0 {
+    let d = apart(a, b);
+    if d.words == 0 {
         return;
     }
     put(name);
-    if n <= LISTED {
+    if d.words <= LISTED {
         list(a, b);
         return;
     }
-    say(b" ", n);
-    say(b" in all, digest ", digest(a, b));
+    say(b" ", d.words);
+    say(b" in all, digest ", d.digest);
 }

@@ -3,6 +3,7 @@ use Prim.Native.Nat.{ℕ, _+_, _-_, _≤_, _<_}
 use mathlib.Core.Path.{_≡_, refl, sym, ap, subst, _∙_}
 use mathlib.Core.Bool.{Bool, true, false, _&&_, _||_, true≢false}
 use mathlib.Core.List.{List}
+use mathlib.Core.Logic.{_↔_}
 use native.Mathlib.Omega.{arith}
 use lib.Dec.{ltb, leb}
 use borrow.Author.Tests.{ltb-true, leb-true, lt-ltb, le-leb}
@@ -65,37 +66,27 @@ equal-same true b e = sym e
 equal-same false true e = e
 equal-same false false e = refl
 
-range-placed : (c : Control) (p : Phase) → inRange c p ≡ true → Placed (c .length) (c .swapped) p
-range-placed c Idle e = tt
-range-placed c Begin e = tt
-range-placed c (Poll k) e = ltb-true _ _ e
-range-placed c Copy e = tt
-range-placed c Drain e = ltb-true _ _ e
-range-placed c (Keep k) e = ltb-true _ _ e
-range-placed c Swap e = tt
-range-placed c (Snap k) e = ltb-true _ _ e
-range-placed c Null e = tt
-range-placed c Lock e = tt
-range-placed c (LastSnap k) e = ltb-true _ _ e
-range-placed c (LastPoll k) e = ltb-true _ _ e
-range-placed c Finish e = tt
-range-placed c Gone e = tt
+below-is : (m n : ℕ) → (ltb m n ≡ true) ↔ (m < n)
+below-is m n = (ltb-true m n, lt-ltb m n)
 
-placed-range : (c : Control) (p : Phase) → Placed (c .length) (c .swapped) p → inRange c p ≡ true
-placed-range c Idle h = refl
-placed-range c Begin h = refl
-placed-range c (Poll k) h = lt-ltb _ _ h
-placed-range c Copy h = refl
-placed-range c Drain h = lt-ltb _ _ h
-placed-range c (Keep k) h = lt-ltb _ _ h
-placed-range c Swap h = refl
-placed-range c (Snap k) h = lt-ltb _ _ h
-placed-range c Null h = refl
-placed-range c Lock h = refl
-placed-range c (LastSnap k) h = lt-ltb _ _ h
-placed-range c (LastPoll k) h = lt-ltb _ _ h
-placed-range c Finish h = refl
-placed-range c Gone h = refl
+anywhere : (true ≡ true) ↔ Unit {0}
+anywhere = (λ e. tt, λ h. refl)
+
+range-is : (c : Control) (p : Phase) → (inRange c p ≡ true) ↔ Placed (c .length) (c .swapped) p
+range-is c Idle = anywhere
+range-is c Begin = anywhere
+range-is c (Poll k) = below-is k slotCount
+range-is c Copy = anywhere
+range-is c Drain = below-is 0 (c .swapped)
+range-is c (Keep k) = below-is k (c .length)
+range-is c Swap = anywhere
+range-is c (Snap k) = below-is k slotCount
+range-is c Null = anywhere
+range-is c Lock = anywhere
+range-is c (LastSnap k) = below-is k slotCount
+range-is c (LastPoll k) = below-is k slotCount
+range-is c Finish = anywhere
+range-is c Gone = anywhere
 
 pub control-whole : (c : Control) → wholeControl c ≡ true → Whole c
 control-whole c e =
@@ -106,7 +97,7 @@ control-whole c e =
     record {
       room = leb-true _ _ (a .0);
       within = leb-true _ _ (b .0);
-      placed = range-placed c (c .phase) (d .0);
+      placed = range-is c (c .phase) .0 (d .0);
       locked = same-equal _ _ (f .0);
       pointed = same-equal _ _ (f .1);
     }
@@ -116,7 +107,7 @@ all p q r s t = λ i. p i && (q i && (r i && (s i && t i)))
 
 pub whole-control : (c : Control) → Whole c → wholeControl c ≡ true
 whole-control c w =
-    all (le-leb _ _ (w .room)) (le-leb _ _ (w .within)) (placed-range c (c .phase) (w .placed))
+    all (le-leb _ _ (w .room)) (le-leb _ _ (w .within)) (range-is c (c .phase) .1 (w .placed))
     (equal-same _ _ (w .locked)) (equal-same _ _ (w .pointed))
 
 -- ---- where the writer goes on

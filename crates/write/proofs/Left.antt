@@ -3,7 +3,6 @@ use Prim.Native.Nat.{ℕ, zero, suc, _+_, _-_, _*_, _^_, _≤_, _<_}
 use mathlib.Core.Path.{_≡_, refl, sym, ap, _∙_}
 use mathlib.Core.Bool.{Bool, true, false, not, _&&_, true≢false}
 use mathlib.Core.List.{List}
-use mathlib.Core.Logic.{_↔_}
 use native.Mathlib.Omega.{arith}
 use native.Mathlib.Nat.{sub-zero}
 use Rattle.table.specs.Answers.{number}
@@ -106,38 +105,51 @@ answered stops goes p j =
 abbrev pub outcome : Phase → Job → Bool → Answer
 outcome p j held = answered (polls p && held) (underway p) p j
 
+-- a step frees a slot, and changes nothing else of it
+abbrev pub usedAs : Slot → Slot → Slot
+usedAs s t = record { used = t .used; epoch = s .epoch; guards = s .guards; due = s .due }
+
 module _ (c : Control) (s : Slot) (e : ℕ) where
-  stopped-answer : (j : Job) → stopped j c s e .answer ≡ stopAnswer j
-  stopped-answer Publish = refl
-  stopped-answer Try = refl
-  stopped-answer TakeFirst = refl
-  stopped-answer TakeSecond = refl
+  abbrev Told : Answer → Moved → Type 0
+  Told a m = (m .answer ≡ a) × (m .slot ≡ usedAs s (m .slot))
 
-  poll-answer : (held : Bool) (k : ℕ) → pollMove held k c s e .answer ≡ outcome (Poll k) (c .job) held
-  poll-answer true k = stopped-answer (c .job)
-  poll-answer false k = refl
+  stopped-told : (j : Job) → Told (stopAnswer j) (stopped j c s e)
+  stopped-told Publish = (refl, refl)
+  stopped-told Try = (refl, refl)
+  stopped-told TakeFirst = (refl, refl)
+  stopped-told TakeSecond = (refl, refl)
 
-  lastPoll-answer : (held : Bool) (k : ℕ) → lastPollMove held k c s e .answer ≡ outcome (LastPoll k) (c .job) held
-  lastPoll-answer true k = refl
-  lastPoll-answer false k = refl
+  poll-told : (held : Bool) (k : ℕ) → Told (outcome (Poll k) (c .job) held) (pollMove held k c s e)
+  poll-told true k = stopped-told (c .job)
+  poll-told false k = (refl, refl)
+
+  lastPoll-told : (held : Bool) (k : ℕ) → Told (outcome (LastPoll k) (c .job) held) (lastPollMove held k c s e)
+  lastPoll-told true k = (refl, refl)
+  lastPoll-told false k = (refl, refl)
 
   module _ (l r g : List ℕ) where
-    pub step-answer : (p : Phase) → stepAt p c s e l r g .made .answer ≡ outcome p (c .job) (holds s e)
+    step-told : (p : Phase) → Told (outcome p (c .job) (holds s e)) (stepAt p c s e l r g .made)
     unfolding stepAt
-    step-answer Idle = refl
-    step-answer Begin = refl
-    step-answer (Poll k) = poll-answer (holds s e) k
-    step-answer Copy = refl
-    step-answer Drain = refl
-    step-answer (Keep k) = refl
-    step-answer Swap = refl
-    step-answer (Snap k) = refl
-    step-answer Null = refl
-    step-answer Lock = refl
-    step-answer (LastSnap k) = refl
-    step-answer (LastPoll k) = lastPoll-answer (holds s e) k
-    step-answer Finish = refl
-    step-answer Gone = refl
+    step-told Idle = (refl, refl)
+    step-told Begin = (refl, refl)
+    step-told (Poll k) = poll-told (holds s e) k
+    step-told Copy = (refl, refl)
+    step-told Drain = (refl, refl)
+    step-told (Keep k) = (refl, refl)
+    step-told Swap = (refl, refl)
+    step-told (Snap k) = (refl, refl)
+    step-told Null = (refl, refl)
+    step-told Lock = (refl, refl)
+    step-told (LastSnap k) = (refl, refl)
+    step-told (LastPoll k) = lastPoll-told (holds s e) k
+    step-told Finish = (refl, refl)
+    step-told Gone = (refl, refl)
+
+    pub step-answer : (p : Phase) → stepAt p c s e l r g .made .answer ≡ outcome p (c .job) (holds s e)
+    step-answer p = step-told p .0
+
+    pub step-slot : (p : Phase) → stepAt p c s e l r g .made .slot ≡ usedAs s (stepAt p c s e l r g .made .slot)
+    step-slot p = step-told p .1
 
 -- a step that is no poll is made, and so is a poll that is not held
 pub made-unless-polls : (p : Phase) (j : Job) (b : Bool) → underway p ≡ true → polls p ≡ false → outcome p j b ≡ answer.Done
@@ -149,86 +161,6 @@ unheld false = refl
 
 pub made-unless-held : (p : Phase) (j : Job) → underway p ≡ true → outcome p j false ≡ answer.Done
 made-unless-held p j u = λ i. answered (unheld (polls p) i) (u i) p j
-
--- the polls that wait where they are held, and those that decline
-abbrev pub waits : Phase → Job → Bool
-waits Idle j = false
-waits Begin j = false
-waits (Poll k) Publish = true
-waits (Poll k) Try = false
-waits (Poll k) TakeFirst = true
-waits (Poll k) TakeSecond = true
-waits Copy j = false
-waits Drain j = false
-waits (Keep k) j = false
-waits Swap j = false
-waits (Snap k) j = false
-waits Null j = false
-waits Lock j = false
-waits (LastSnap k) j = false
-waits (LastPoll k) j = true
-waits Finish j = false
-waits Gone j = false
-
-abbrev pub declines : Phase → Job → Bool
-declines p j = polls p && not (waits p j)
-
--- two that are unlike, and a test that is not met
-apart : {a b : Answer} → (number a ≡ number b → ⊥) → (a ≡ b) ↔ (false ≡ true)
-apart f = (λ e. absurd (f (ap number e)), λ e. absurd (true≢false (sym e)))
-
-alike : {a : Answer} → (a ≡ a) ↔ (true ≡ true)
-alike = (λ e. refl, λ e. refl)
-
--- held: exactly a poll that is held, of a call that waits
-pub held-exactly : (p : Phase) (j : Job) (b : Bool) → (outcome p j b ≡ answer.Held) ↔ ((waits p j && b) ≡ true)
-held-exactly Idle j b = apart (omega arith)
-held-exactly Begin j b = apart (omega arith)
-held-exactly (Poll k) Publish true = alike
-held-exactly (Poll k) Publish false = apart (omega arith)
-held-exactly (Poll k) Try true = apart (omega arith)
-held-exactly (Poll k) Try false = apart (omega arith)
-held-exactly (Poll k) TakeFirst true = alike
-held-exactly (Poll k) TakeFirst false = apart (omega arith)
-held-exactly (Poll k) TakeSecond true = alike
-held-exactly (Poll k) TakeSecond false = apart (omega arith)
-held-exactly Copy j b = apart (omega arith)
-held-exactly Drain j b = apart (omega arith)
-held-exactly (Keep k) j b = apart (omega arith)
-held-exactly Swap j b = apart (omega arith)
-held-exactly (Snap k) j b = apart (omega arith)
-held-exactly Null j b = apart (omega arith)
-held-exactly Lock j b = apart (omega arith)
-held-exactly (LastSnap k) j b = apart (omega arith)
-held-exactly (LastPoll k) j true = alike
-held-exactly (LastPoll k) j false = apart (omega arith)
-held-exactly Finish j b = apart (omega arith)
-held-exactly Gone j b = apart (omega arith)
-
--- declined: exactly a try's poll that is held
-pub declined-exactly : (p : Phase) (j : Job) (b : Bool) → (outcome p j b ≡ answer.Declined) ↔ ((declines p j && b) ≡ true)
-declined-exactly Idle j b = apart (omega arith)
-declined-exactly Begin j b = apart (omega arith)
-declined-exactly (Poll k) Publish true = apart (omega arith)
-declined-exactly (Poll k) Publish false = apart (omega arith)
-declined-exactly (Poll k) Try true = alike
-declined-exactly (Poll k) Try false = apart (omega arith)
-declined-exactly (Poll k) TakeFirst true = apart (omega arith)
-declined-exactly (Poll k) TakeFirst false = apart (omega arith)
-declined-exactly (Poll k) TakeSecond true = apart (omega arith)
-declined-exactly (Poll k) TakeSecond false = apart (omega arith)
-declined-exactly Copy j b = apart (omega arith)
-declined-exactly Drain j b = apart (omega arith)
-declined-exactly (Keep k) j b = apart (omega arith)
-declined-exactly Swap j b = apart (omega arith)
-declined-exactly (Snap k) j b = apart (omega arith)
-declined-exactly Null j b = apart (omega arith)
-declined-exactly Lock j b = apart (omega arith)
-declined-exactly (LastSnap k) j b = apart (omega arith)
-declined-exactly (LastPoll k) j true = apart (omega arith)
-declined-exactly (LastPoll k) j false = apart (omega arith)
-declined-exactly Finish j b = apart (omega arith)
-declined-exactly Gone j b = apart (omega arith)
 
 -- ---- a poll
 

@@ -1,7 +1,8 @@
 -- Each turn goes behind the next line's end, at most one place past the last.
 use Prim.Native.Nat.{_+_, _≤_, _-_}
 use lib.ListN.{length}
-use borrow.Author.Needs.{needs}
+use native.Mathlib.Omega.{arith}
+use Rattle.table.proofs.Needs.{all15}
 use Rattle.ends.proofs.each_line.Statement.{statement}
 use Rattle.ends.proofs.each_line.Tie as tie
 
@@ -13,22 +14,4 @@ abbrev μ-loop : tie.MeasureT-loop
 
 pub each-line-spec : {M : Type 1} → statement M
 each-line-spec =
-    tie.close
-    (tie.spec
-    Inv-loop
-    μ-loop
-    (λ c. search needs)
-    (λ c. search needs)
-    (λ c. search needs)
-    (λ c κs. search needs)
-    (λ c κs. search needs)
-    (λ c. search needs)
-    (λ c κs. search needs)
-    (λ c. search needs)
-    (λ c. search needs)
-    (λ c. search needs)
-    (λ c κs. search needs)
-    (λ c κs. search needs)
-    (λ c. search needs)
-    (λ c. search needs)
-    (λ c. search needs))
+    tie.close (all15 (tie.spec Inv-loop μ-loop) (omega arith))

@@ -1,7 +1,8 @@
 -- At most one is counted for each byte.
 use Prim.Native.Nat.{_≤_, _-_}
 use lib.ListN.{length}
-use borrow.Author.Needs.{needs}
+use native.Mathlib.Omega.{arith}
+use Rattle.table.proofs.Needs.{all8}
 use Rattle.replay.proofs.changed.Statement.{statement}
 use Rattle.replay.proofs.changed.Tie as tie
 
@@ -13,15 +14,4 @@ abbrev μ-loop : tie.MeasureT-loop
 
 pub changed-spec : {M : Type 1} → statement M
 changed-spec =
-    tie.close
-    (tie.spec
-    Inv-loop
-    μ-loop
-    (λ c. search needs)
-    (λ c. search needs)
-    (λ c κs. search needs)
-    (λ c. search needs)
-    (λ c. search needs)
-    (λ c. search needs)
-    (λ c. search needs)
-    (λ c. search needs))
+    tie.close (all8 (tie.spec Inv-loop μ-loop) (omega arith))

@@ -1,5 +1,6 @@
 -- What is kept of the number has 56 bits, so that a byte more fits.
-use borrow.Author.Needs.{needs}
+use native.Mathlib.Omega.{arith}
+use Rattle.table.proofs.Needs.{all9}
 use Prim.Native.Nat.{_≤_}
 use lib.ListN.{length}
 use Rattle.replay.proofs.number.Statement.{statement}
@@ -13,16 +14,4 @@ abbrev μ-loop : tie.MeasureT-loop
 
 pub number-spec : {M : Type 1} → statement M
 number-spec =
-    tie.close
-    (tie.spec
-    Inv-loop
-    μ-loop
-    (λ c. search needs)
-    (λ c. search needs)
-    (λ c. search needs)
-    (λ c. search needs)
-    (λ c κs. search needs)
-    (λ c. search needs)
-    (λ c. search needs)
-    (λ c. search needs)
-    (λ c. search needs))
+    tie.close (all9 (tie.spec Inv-loop μ-loop) (omega arith))

@@ -1,7 +1,8 @@
 -- Each history takes more of the sample than it has records, and at least one byte of it.
 use Prim.Native.Nat.{_≤_, _-_}
 use lib.ListN.{length}
-use borrow.Author.Needs.{needs}
+use native.Mathlib.Omega.{arith}
+use Rattle.table.proofs.Needs.{all11}
 use Rattle.replay.proofs.replay.Statement.{statement}
 use Rattle.replay.proofs.replay.Tie as tie
 
@@ -13,29 +14,4 @@ abbrev μ-loop : tie.MeasureT-loop
 
 pub replay-spec : {M : Type 1} → statement M
 replay-spec =
-    tie.close
-    (tie.spec
-    Inv-loop
-    μ-loop
-    (λ c. search needs)
-    (λ c κs. search needs)
-    (λ c κs. search needs)
-    (λ c. search needs)
-    (λ c κs. search needs)
-    (λ c. search needs)
-    (λ c κs. search needs)
-    (λ c. search needs)
-    (λ c. search needs)
-    (λ c. search needs)
-    (λ c. search needs)
-    (λ c. search needs)
-    (λ c. search needs)
-    (λ c. search needs)
-    (λ c κs. search needs)
-    (λ c. search needs)
-    (λ c. search needs)
-    (λ c. search needs)
-    (λ c. search needs)
-    (λ c. search needs)
-    (λ c κs. search needs)
-    (λ c. search needs))
+    tie.close (all11 (all11 (tie.spec Inv-loop μ-loop) (omega arith)) (omega arith))

@@ -1,5 +1,7 @@
 -- Each answer is the rule's under the tests that led to it; past the first the copy is fit.
+use native.Mathlib.Omega.{arith}
 use borrow.Author.Needs.{needs}
+use Rattle.table.proofs.Needs.{all3}
 use mathlib.Core.Path.{sym, _∙_}
 use borrow.Author.Tests.{not-true, not-false}
 use Rattle.table.proofs.Cases.{fits-fit, apply-unfit, apply-unlawful, apply-made}
@@ -28,15 +30,4 @@ returns-3 c =
 
 pub apply-spec : {M : Type 1} → statement M
 apply-spec =
-    tie.close
-    (tie.spec
-    (λ c κs. search needs)
-    (λ c κs. search needs)
-    (λ c. search needs)
-    returns
-    (λ c κs. search needs)
-    (λ c. search needs)
-    returns-2
-    effect-requires
-    (λ c. search needs)
-    returns-3)
+    tie.close (all3 tie.spec (omega arith) returns (λ c κs. search needs) (λ c. search needs) returns-2 effect-requires (λ c. search needs) returns-3)

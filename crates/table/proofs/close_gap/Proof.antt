@@ -1,5 +1,5 @@
 -- The words have moved down, and the part behind them comes back zeroed.
-use borrow.Author.Needs.{needs}
+use Rattle.table.proofs.Needs.{all8}
 use mathlib.Core.Path.{sym, _∙_}
 use native.Mathlib.Omega.{arith}
 use Rattle.table.proofs.Cases.{close-room, close-short}
@@ -21,16 +21,4 @@ returns-3 c =
 
 pub close-gap-spec : {M : Type 1} → statement M
 close-gap-spec =
-    tie.close
-    (tie.spec
-    returns
-    returns-2
-    (λ c κs. search needs)
-    (λ c. search needs)
-    (λ c. search needs)
-    (λ c. search needs)
-    (λ c. search needs)
-    (λ c. search needs)
-    (λ c κs. search needs)
-    (λ c. search needs)
-    returns-3)
+    tie.close (all8 (tie.spec returns returns-2) (omega arith) returns-3)

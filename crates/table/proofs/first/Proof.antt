@@ -3,7 +3,9 @@ use Prim.Native.Nat.{ℕ, _≤_, _-_}
 use mathlib.Core.Path.{_≡_, refl, sym, ap, _∙_}
 use mathlib.Core.Bool.{Bool}
 use mathlib.Core.List.{List}
+use native.Mathlib.Omega.{arith}
 use borrow.Author.Needs.{needs}
+use Rattle.table.proofs.Needs.{all5}
 use Rattle.table.specs.Seek.{seek}
 use Rattle.table.specs.Copy.{entries, keyAt, passes, first as firstRule}
 use Rattle.table.proofs.Seek.{seek-here, seek-next, seek-end}
@@ -44,19 +46,4 @@ returns-2 c =
 
 pub first-spec : {M : Type 1} → statement M
 first-spec =
-    tie.close
-    (tie.spec
-    Inv-loop
-    μ-loop
-    (λ c. search needs)
-    loop-holds
-    (λ c. search needs)
-    (λ c. search needs)
-    (λ c. search needs)
-    (λ c. search needs)
-    (λ c κs. search needs)
-    returns
-    (λ c. search needs)
-    (λ c. search needs)
-    loop-again
-    returns-2)
+    tie.close (all5 (tie.spec Inv-loop μ-loop (λ c. search needs) loop-holds) (omega arith) returns (λ c. search needs) (λ c. search needs) loop-again returns-2)

@@ -3,6 +3,7 @@ use Prim.Native.Nat.{_≤_, _-_}
 use mathlib.Core.Path.{_≡_}
 use native.Mathlib.Omega.{arith}
 use borrow.Author.Needs.{needs}
+use Rattle.table.proofs.Needs.{all7}
 use lib.ListN.{length, drop, length-set}
 use Rattle.table.proofs.Moves.{over, over-down}
 use Rattle.table.proofs.move_down.Statement.{statement}
@@ -31,18 +32,4 @@ returns c =
 
 pub move-down-spec : {M : Type 1} → statement M
 move-down-spec =
-    tie.close
-    (tie.spec
-    Inv-loop
-    μ-loop
-    (λ c. search needs)
-    (λ c. search needs)
-    (λ c. search needs)
-    (λ c. search needs)
-    (λ c. search needs)
-    (λ c. search needs)
-    (λ c. search needs)
-    (λ c. search needs)
-    loop-again
-    (λ c. search needs)
-    returns)
+    tie.close (all7 (tie.spec Inv-loop μ-loop (λ c. search needs)) (omega arith) loop-again (λ c. search needs) returns)

@@ -3,6 +3,7 @@ use Prim.Native.Nat.{_≤_, _-_}
 use mathlib.Core.Path.{_≡_}
 use native.Mathlib.Omega.{arith}
 use borrow.Author.Needs.{needs}
+use Rattle.table.proofs.Needs.{all7}
 use lib.ListN.{length, length-set}
 use Rattle.table.proofs.Moves.{upFrom, up-none, getD-up, up-next, up-opened}
 use Rattle.table.proofs.open_gap.Statement.{statement}
@@ -42,20 +43,4 @@ returns c =
 
 pub open-gap-spec : {M : Type 1} → statement M
 open-gap-spec =
-    tie.close
-    (tie.spec
-    Inv-loop
-    μ-loop
-    loop-holds
-    (λ c. search needs)
-    (λ c. search needs)
-    (λ c. search needs)
-    (λ c. search needs)
-    (λ c. search needs)
-    (λ c. search needs)
-    (λ c. search needs)
-    loop-again
-    (λ c. search needs)
-    slice-write-part-3
-    same-length
-    returns)
+    tie.close (all7 (tie.spec Inv-loop μ-loop loop-holds) (omega arith) loop-again (λ c. search needs) slice-write-part-3 same-length returns)

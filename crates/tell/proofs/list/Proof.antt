@@ -1,7 +1,8 @@
 -- The loop goes over every word.
 use Prim.Native.Nat.{_≤_, _-_}
 use lib.ListN.{length}
-use borrow.Author.Needs.{needs}
+use native.Mathlib.Omega.{arith}
+use Rattle.table.proofs.Needs.{all11}
 use Rattle.tell.proofs.list.Statement.{statement}
 use Rattle.tell.proofs.list.Tie as tie
 
@@ -13,18 +14,4 @@ abbrev μ-loop : tie.MeasureT-loop
 
 pub list-spec : {M : Type 1} → statement M
 list-spec =
-    tie.close
-    (tie.spec
-    Inv-loop
-    μ-loop
-    (λ c. search needs)
-    (λ c κs. search needs)
-    (λ c. search needs)
-    (λ c. search needs)
-    (λ c. search needs)
-    (λ c. search needs)
-    (λ c κs. search needs)
-    (λ c. search needs)
-    (λ c. search needs)
-    (λ c. search needs)
-    (λ c. search needs))
+    tie.close (all11 (tie.spec Inv-loop μ-loop) (omega arith))

@@ -1,7 +1,8 @@
 -- The loop goes over every byte.
 use Prim.Native.Nat.{_≤_, _-_}
 use lib.ListN.{length}
-use borrow.Author.Needs.{needs}
+use native.Mathlib.Omega.{arith}
+use Rattle.table.proofs.Needs.{all10}
 use Rattle.tell.proofs.number.Statement.{statement}
 use Rattle.tell.proofs.number.Tie as tie
 
@@ -13,17 +14,4 @@ abbrev μ-loop : tie.MeasureT-loop
 
 pub number-spec : {M : Type 1} → statement M
 number-spec =
-    tie.close
-    (tie.spec
-    Inv-loop
-    μ-loop
-    (λ c. search needs)
-    (λ c. search needs)
-    (λ c κs. search needs)
-    (λ c κs. search needs)
-    (λ c κs. search needs)
-    (λ c. search needs)
-    (λ c. search needs)
-    (λ c. search needs)
-    (λ c κs. search needs)
-    (λ c. search needs))
+    tie.close (all10 (tie.spec Inv-loop μ-loop) (omega arith))

@@ -1,7 +1,8 @@
 -- The loop goes over every byte of the first.
 use Prim.Native.Nat.{_≤_, _-_}
 use lib.ListN.{length}
-use borrow.Author.Needs.{needs}
+use native.Mathlib.Omega.{arith}
+use Rattle.table.proofs.Needs.{all9}
 use Rattle.tell.proofs.same.Statement.{statement}
 use Rattle.tell.proofs.same.Tie as tie
 
@@ -13,16 +14,4 @@ abbrev μ-loop : tie.MeasureT-loop
 
 pub same-spec : {M : Type 1} → statement M
 same-spec =
-    tie.close
-    (tie.spec
-    Inv-loop
-    μ-loop
-    (λ c. search needs)
-    (λ c. search needs)
-    (λ c. search needs)
-    (λ c. search needs)
-    (λ c. search needs)
-    (λ c. search needs)
-    (λ c. search needs)
-    (λ c. search needs)
-    (λ c. search needs))
+    tie.close (all9 (tie.spec Inv-loop μ-loop) (omega arith))

@@ -1,7 +1,8 @@
 -- Each turn goes behind the next blank, at most one place past the end.
 use Prim.Native.Nat.{_+_, _≤_, _-_}
 use lib.ListN.{length}
-use borrow.Author.Needs.{needs}
+use native.Mathlib.Omega.{arith}
+use Rattle.table.proofs.Needs.{all12}
 use Rattle.tell.proofs.which.Statement.{statement}
 use Rattle.tell.proofs.which.Tie as tie
 
@@ -13,19 +14,4 @@ abbrev μ-loop : tie.MeasureT-loop
 
 pub which-spec : {M : Type 1} → statement M
 which-spec =
-    tie.close
-    (tie.spec
-    Inv-loop
-    μ-loop
-    (λ c. search needs)
-    (λ c κs. search needs)
-    (λ c. search needs)
-    (λ c. search needs)
-    (λ c. search needs)
-    (λ c κs. search needs)
-    (λ c. search needs)
-    (λ c. search needs)
-    (λ c. search needs)
-    (λ c. search needs)
-    (λ c. search needs)
-    (λ c. search needs))
+    tie.close (all12 (tie.spec Inv-loop μ-loop) (omega arith))

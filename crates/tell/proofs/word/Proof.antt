@@ -1,7 +1,8 @@
 -- The place stays within the line.
 use Prim.Native.Nat.{_≤_, _-_}
 use lib.ListN.{length}
-use borrow.Author.Needs.{needs}
+use native.Mathlib.Omega.{arith}
+use Rattle.table.proofs.Needs.{all13}
 use Rattle.tell.proofs.word.Statement.{statement}
 use Rattle.tell.proofs.word.Tie as tie
 
@@ -13,20 +14,4 @@ abbrev μ-loop : tie.MeasureT-loop
 
 pub word-spec : {M : Type 1} → statement M
 word-spec =
-    tie.close
-    (tie.spec
-    Inv-loop
-    μ-loop
-    (λ c. search needs)
-    (λ c κs. search needs)
-    (λ c. search needs)
-    (λ c. search needs)
-    (λ c. search needs)
-    (λ c. search needs)
-    (λ c. search needs)
-    (λ c. search needs)
-    (λ c κs. search needs)
-    (λ c. search needs)
-    (λ c. search needs)
-    (λ c. search needs)
-    (λ c. search needs))
+    tie.close (all13 (tie.spec Inv-loop μ-loop) (omega arith))

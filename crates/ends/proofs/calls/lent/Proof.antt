@@ -3,6 +3,7 @@ use native.Mathlib.Omega.{arith}
 use lib.Seq.{length-take-le}
 use mathlib.Core.Path.{sym}
 use borrow.Author.Needs.{needs}
+use Rattle.table.proofs.Needs.{all5, all7}
 use Rattle.ends.proofs.calls.lent.Statement.{statement}
 use Rattle.ends.proofs.calls.lent.Tie as tie
 
@@ -17,22 +18,4 @@ slice-aggregate-acted-3 c = sym (length-take-le _ _ (omega arith))
 
 pub lent-spec : {M : Type 1} → statement M
 lent-spec =
-    tie.close
-    (tie.spec
-    (λ c κs. search needs)
-    (λ c κs. search needs)
-    (λ c κs. search needs)
-    (λ c κs. search needs)
-    (λ c κs. search needs)
-    (λ c κs. search needs)
-    (λ c. search needs)
-    slice-aggregate-acted
-    (λ c. search needs)
-    slice-aggregate-acted-2
-    (λ c. search needs)
-    slice-aggregate-acted-3
-    (λ c κs. search needs)
-    (λ c. search needs)
-    (λ c. search needs)
-    (λ c. search needs)
-    (λ c. search needs))
+    tie.close (all5 (all7 tie.spec (omega arith) slice-aggregate-acted (λ c. search needs) slice-aggregate-acted-2 (λ c. search needs) slice-aggregate-acted-3) (omega arith))

@@ -1,7 +1,9 @@
 -- The loop goes over every guard, and the array keeps its length.
 use Prim.Native.Nat.{_≤_, _-_}
 use lib.ListN.{length}
+use native.Mathlib.Omega.{arith}
 use borrow.Author.Needs.{needs}
+use Rattle.table.proofs.Needs.{all8}
 use mathlib.Core.Path.{_≡_}
 use Rattle.read.specs.Machine.{guardCount}
 use Rattle.ends.proofs.records.guards_of.Statement.{statement}
@@ -15,17 +17,4 @@ abbrev μ-loop : tie.MeasureT-loop
 
 pub guards-of-spec : {M : Type 1} → statement M
 guards-of-spec =
-    tie.close
-    (tie.spec
-    Inv-loop
-    μ-loop
-    (λ c κs. search needs)
-    (λ c. search needs)
-    (λ c κs. search needs)
-    (λ c κs. search needs)
-    (λ c. search needs)
-    (λ c. search needs)
-    (λ c. search needs)
-    (λ c. search needs)
-    (λ c. search needs)
-    (λ c. search needs))
+    tie.close (all8 (tie.spec Inv-loop μ-loop) (omega arith) (λ c. search needs) (λ c. search needs))

@@ -1,6 +1,7 @@
 -- The loop goes over every guard.
 use Prim.Native.Nat.{_≤_, _-_}
-use borrow.Author.Needs.{needs}
+use native.Mathlib.Omega.{arith}
+use Rattle.table.proofs.Needs.{all12}
 use Rattle.read.specs.Machine.{guardCount}
 use Rattle.ends.proofs.records.same_guards.Statement.{statement}
 use Rattle.ends.proofs.records.same_guards.Tie as tie
@@ -13,19 +14,4 @@ abbrev μ-loop : tie.MeasureT-loop
 
 pub same-guards-spec : {M : Type 1} → statement M
 same-guards-spec =
-    tie.close
-    (tie.spec
-    Inv-loop
-    μ-loop
-    (λ c. search needs)
-    (λ c. search needs)
-    (λ c. search needs)
-    (λ c. search needs)
-    (λ c. search needs)
-    (λ c κs. search needs)
-    (λ c κs. search needs)
-    (λ c. search needs)
-    (λ c. search needs)
-    (λ c. search needs)
-    (λ c. search needs)
-    (λ c. search needs))
+    tie.close (all12 (tie.spec Inv-loop μ-loop) (omega arith))

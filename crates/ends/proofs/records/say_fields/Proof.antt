@@ -1,6 +1,7 @@
 -- The loop goes over every field.
 use Prim.Native.Nat.{_≤_, _-_}
-use borrow.Author.Needs.{needs}
+use native.Mathlib.Omega.{arith}
+use Rattle.table.proofs.Needs.{all12}
 use Rattle.ends.proofs.records.say_fields.Statement.{statement}
 use Rattle.ends.proofs.records.say_fields.Tie as tie
 
@@ -12,19 +13,4 @@ abbrev μ-loop : tie.MeasureT-loop
 
 pub say-fields-spec : {M : Type 1} → statement M
 say-fields-spec =
-    tie.close
-    (tie.spec
-    Inv-loop
-    μ-loop
-    (λ c. search needs)
-    (λ c. search needs)
-    (λ c. search needs)
-    (λ c. search needs)
-    (λ c. search needs)
-    (λ c. search needs)
-    (λ c. search needs)
-    (λ c κs. search needs)
-    (λ c. search needs)
-    (λ c. search needs)
-    (λ c. search needs)
-    (λ c. search needs))
+    tie.close (all12 (tie.spec Inv-loop μ-loop) (omega arith))

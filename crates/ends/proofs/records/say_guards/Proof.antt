@@ -1,6 +1,7 @@
 -- The loop goes over every guard.
 use Prim.Native.Nat.{_≤_, _-_}
-use borrow.Author.Needs.{needs}
+use native.Mathlib.Omega.{arith}
+use Rattle.table.proofs.Needs.{all8}
 use Rattle.read.specs.Machine.{guardCount}
 use Rattle.ends.proofs.records.say_guards.Statement.{statement}
 use Rattle.ends.proofs.records.say_guards.Tie as tie
@@ -13,15 +14,4 @@ abbrev μ-loop : tie.MeasureT-loop
 
 pub say-guards-spec : {M : Type 1} → statement M
 say-guards-spec =
-    tie.close
-    (tie.spec
-    Inv-loop
-    μ-loop
-    (λ c. search needs)
-    (λ c. search needs)
-    (λ c. search needs)
-    (λ c κs. search needs)
-    (λ c. search needs)
-    (λ c. search needs)
-    (λ c. search needs)
-    (λ c. search needs))
+    tie.close (all8 (tie.spec Inv-loop μ-loop) (omega arith))

@@ -1,6 +1,7 @@
 -- The loop goes over every slot.
 use Prim.Native.Nat.{_≤_, _-_}
-use borrow.Author.Needs.{needs}
+use native.Mathlib.Omega.{arith}
+use Rattle.table.proofs.Needs.{all14}
 use Rattle.read.specs.Machine.{slotTotal}
 use Rattle.ends.proofs.records.say_slots.Statement.{statement}
 use Rattle.ends.proofs.records.say_slots.Tie as tie
@@ -13,21 +14,4 @@ abbrev μ-loop : tie.MeasureT-loop
 
 pub say-slots-spec : {M : Type 1} → statement M
 say-slots-spec =
-    tie.close
-    (tie.spec
-    Inv-loop
-    μ-loop
-    (λ c. search needs)
-    (λ c. search needs)
-    (λ c. search needs)
-    (λ c. search needs)
-    (λ c. search needs)
-    (λ c. search needs)
-    (λ c. search needs)
-    (λ c. search needs)
-    (λ c. search needs)
-    (λ c κs. search needs)
-    (λ c. search needs)
-    (λ c. search needs)
-    (λ c. search needs)
-    (λ c. search needs))
+    tie.close (all14 (tie.spec Inv-loop μ-loop) (omega arith))

@@ -1,7 +1,8 @@
 -- An answer is a byte, so that the sum stays small.
 use Prim.Native.Nat.{_≤_, _-_, _*_}
 use lib.ListN.{length}
-use borrow.Author.Needs.{needs}
+use native.Mathlib.Omega.{arith}
+use Rattle.table.proofs.Needs.{all13}
 use Rattle.table.specs.Copy.{pairs}
 use mathlib.Core.Path.{_≡_}
 use Rattle.ends.proofs.slices.fill.Statement.{statement}
@@ -15,20 +16,4 @@ abbrev μ-loop : tie.MeasureT-loop
 
 pub fill-spec : {M : Type 1} → statement M
 fill-spec =
-    tie.close
-    (tie.spec
-    Inv-loop
-    μ-loop
-    (λ c. search needs)
-    (λ c. search needs)
-    (λ c κs. search needs)
-    (λ c. search needs)
-    (λ c κs. search needs)
-    (λ c κs. search needs)
-    (λ c. search needs)
-    (λ c. search needs)
-    (λ c. search needs)
-    (λ c. search needs)
-    (λ c. search needs)
-    (λ c. search needs)
-    (λ c. search needs))
+    tie.close (all13 (tie.spec Inv-loop μ-loop) (omega arith))

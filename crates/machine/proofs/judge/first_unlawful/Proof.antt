@@ -3,7 +3,9 @@ use Prim.Native.Nat.{ℕ, _≤_, _-_}
 use mathlib.Core.Path.{_≡_, sym, ap, _∙_}
 use mathlib.Core.Bool.{Bool, not}
 use mathlib.Core.List.{List}
+use native.Mathlib.Omega.{arith}
 use borrow.Author.Needs.{needs}
+use Rattle.table.proofs.Needs.{all12}
 use Rattle.table.specs.Seek.{seek}
 use Rattle.table.proofs.Seek.{seek-here, seek-next, seek-end}
 use Rattle.read.specs.Machine.{lawfulAt, firstUnlawful}
@@ -39,25 +41,4 @@ returns-2 c =
 
 pub first-unlawful-spec : {M : Type 1} → statement M
 first-unlawful-spec =
-    tie.close
-    (tie.spec
-    Inv-loop
-    μ-loop
-    loop-holds
-    (λ c. search needs)
-    (λ c. search needs)
-    (λ c. search needs)
-    (λ c. search needs)
-    (λ c. search needs)
-    (λ c. search needs)
-    (λ c. search needs)
-    (λ c. search needs)
-    (λ c. search needs)
-    (λ c. search needs)
-    (λ c. search needs)
-    (λ c κs. search needs)
-    returns
-    (λ c. search needs)
-    (λ c. search needs)
-    loop-again
-    returns-2)
+    tie.close (all12 (tie.spec Inv-loop μ-loop loop-holds) (omega arith) returns (λ c. search needs) (λ c. search needs) loop-again returns-2)

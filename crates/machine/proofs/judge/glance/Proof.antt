@@ -4,6 +4,7 @@ use mathlib.Core.Bool.{_&&_}
 use native.Mathlib.Omega.{arith}
 use borrow.Author.Tests.{not-true, not-false}
 use borrow.Author.Needs.{needs}
+use Rattle.table.proofs.Needs.{all3}
 use lib.Dec.{leb}
 use Rattle.table.specs.Copy.{pairs, entries}
 use Rattle.read.proofs.Cases.{sized-lengths, glanced-length, glanced-broken, glanced-whole}
@@ -37,14 +38,4 @@ returns-3 c =
 
 pub glance-spec : {M : Type 1} → statement M
 glance-spec =
-    tie.close
-    (tie.spec
-    (λ c κs. search needs)
-    returns
-    shared-slice-read-both
-    shared-slice-read-both-2
-    (λ c κs. search needs)
-    (λ c κs. search needs)
-    (λ c κs. search needs)
-    returns-2
-    returns-3)
+    tie.close (all3 (tie.spec (λ c κs. search needs) returns shared-slice-read-both shared-slice-read-both-2) (omega arith) returns-2 returns-3)

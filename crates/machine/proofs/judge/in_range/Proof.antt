@@ -1,6 +1,7 @@
 -- Each answer is the rule's at the phase that the match found.
 use mathlib.Core.Path.{sym, ap}
-use borrow.Author.Needs.{needs}
+use native.Mathlib.Omega.{arith}
+use Rattle.table.proofs.Needs.{all14}
 use Rattle.read.specs.Machine.{slotCount, inRange}
 use Rattle.machine.proofs.judge.in_range.Statement.{statement}
 use Rattle.machine.proofs.judge.in_range.Tie as tie
@@ -53,33 +54,4 @@ returns-14 c = sym (ap (inRange (c .before .before .args .c)) (c .enum-told9 .gi
 
 pub in-range-spec : {M : Type 1} → statement M
 in-range-spec =
-    tie.close
-    (tie.spec
-    (λ c. search needs)
-    (λ c. search needs)
-    (λ c. search needs)
-    (λ c. search needs)
-    (λ c. search needs)
-    (λ c. search needs)
-    (λ c. search needs)
-    (λ c. search needs)
-    (λ c. search needs)
-    (λ c. search needs)
-    (λ c. search needs)
-    (λ c. search needs)
-    (λ c. search needs)
-    (λ c. search needs)
-    returns
-    returns-2
-    returns-3
-    returns-4
-    returns-5
-    returns-6
-    returns-7
-    returns-8
-    returns-9
-    returns-10
-    returns-11
-    returns-12
-    returns-13
-    returns-14)
+    tie.close (all14 tie.spec (omega arith) returns returns-2 returns-3 returns-4 returns-5 returns-6 returns-7 returns-8 returns-9 returns-10 returns-11 returns-12 returns-13 returns-14)

@@ -1,5 +1,6 @@
 -- The tests, in the rule's order.
-use borrow.Author.Needs.{needs}
+use native.Mathlib.Omega.{arith}
+use Rattle.table.proofs.Needs.{all9}
 use Rattle.machine.proofs.judge.whole_control.Statement.{statement}
 use Rattle.machine.proofs.judge.whole_control.Tie as tie
 
@@ -8,15 +9,4 @@ returns c = rw (c .both4 .ensures, c .before .both3 .ensures, c .before .before 
 
 pub whole-control-spec : {M : Type 1} → statement M
 whole-control-spec =
-    tie.close
-    (tie.spec
-    (λ c κs. search needs)
-    (λ c κs. search needs)
-    (λ c κs. search needs)
-    (λ c κs. search needs)
-    (λ c κs. search needs)
-    (λ c κs. search needs)
-    (λ c κs. search needs)
-    (λ c κs. search needs)
-    (λ c κs. search needs)
-    returns)
+    tie.close (all9 tie.spec (omega arith) returns)

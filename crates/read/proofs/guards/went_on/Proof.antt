@@ -1,6 +1,7 @@
 -- By the step that is due.
 use mathlib.Core.Path.{sym, ap, _∙_}
-use borrow.Author.Needs.{needs}
+use native.Mathlib.Omega.{arith}
+use Rattle.table.proofs.Needs.{all6}
 use Rattle.read.specs.Handles.{wentOn}
 use Rattle.read.proofs.guards.went_on.Statement.{statement}
 use Rattle.read.proofs.guards.went_on.Tie as tie
@@ -22,14 +23,4 @@ returns-3 c =
 
 pub went-on-spec : {M : Type 1} → statement M
 went-on-spec =
-    tie.close
-    (tie.spec
-    (λ c. search needs)
-    (λ c. search needs)
-    (λ c κs. search needs)
-    (λ c. search needs)
-    (λ c κs. search needs)
-    (λ c κs. search needs)
-    returns
-    returns-2
-    returns-3)
+    tie.close (all6 tie.spec (omega arith) returns returns-2 returns-3)

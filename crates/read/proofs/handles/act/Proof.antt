@@ -1,6 +1,7 @@
 -- Each result is the rule's at the call that the match found.
 use mathlib.Core.Path.{sym, ap, _∙_}
-use borrow.Author.Needs.{needs}
+use native.Mathlib.Omega.{arith}
+use Rattle.table.proofs.Needs.{all13}
 use Rattle.read.specs.Handles.{handled}
 use Rattle.read.proofs.handles.act.Statement.{statement}
 use Rattle.read.proofs.handles.act.Tie as tie
@@ -43,24 +44,4 @@ returns-6 c =
 
 pub act-spec : {M : Type 1} → statement M
 act-spec =
-    tie.close
-    (tie.spec
-    (λ c. search needs)
-    (λ c κs. search needs)
-    (λ c. search needs)
-    (λ c κs. search needs)
-    (λ c. search needs)
-    (λ c κs. search needs)
-    (λ c. search needs)
-    (λ c κs. search needs)
-    (λ c. search needs)
-    (λ c κs. search needs)
-    (λ c κs. search needs)
-    (λ c. search needs)
-    (λ c κs. search needs)
-    returns
-    returns-2
-    returns-3
-    returns-4
-    returns-5
-    returns-6)
+    tie.close (all13 tie.spec (omega arith) returns returns-2 returns-3 returns-4 returns-5 returns-6)

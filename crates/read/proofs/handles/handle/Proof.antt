@@ -1,6 +1,7 @@
 -- By the verdict.
 use mathlib.Core.Path.{sym, _∙_}
-use borrow.Author.Needs.{needs}
+use native.Mathlib.Omega.{arith}
+use Rattle.table.proofs.Needs.{all4}
 use Rattle.read.proofs.Cases.{handle-refused, handle-made}
 use Rattle.read.proofs.handles.handle.Statement.{statement}
 use Rattle.read.proofs.handles.handle.Tie as tie
@@ -17,11 +18,4 @@ returns-2 c =
 
 pub handle-spec : {M : Type 1} → statement M
 handle-spec =
-    tie.close
-    (tie.spec
-    (λ c κs. search needs)
-    (λ c. search needs)
-    (λ c. search needs)
-    (λ c κs. search needs)
-    returns
-    returns-2)
+    tie.close (all4 tie.spec (omega arith) returns returns-2)

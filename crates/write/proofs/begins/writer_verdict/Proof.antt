@@ -1,7 +1,9 @@
 -- The tests in the order of the signs.
 use mathlib.Core.Bool.{_||_}
 use mathlib.Core.Path.{_≡_, refl, sym, _∙_}
+use native.Mathlib.Omega.{arith}
 use borrow.Author.Needs.{needs}
+use Rattle.table.proofs.Needs.{all3}
 use lib.Dec.{eqb}
 use Rattle.read.specs.Machine.{isDue}
 use Rattle.read.specs.Admission.{entry}
@@ -63,16 +65,4 @@ returns-6 c =
 
 pub writer-verdict-spec : {M : Type 1} → statement M
 writer-verdict-spec =
-    tie.close
-    (tie.spec
-    (λ c κs. search needs)
-    returns
-    returns-2
-    (λ c κs. search needs)
-    (λ c κs. search needs)
-    (λ c κs. search needs)
-    returns-3
-    (λ c κs. search needs)
-    returns-4
-    returns-5
-    returns-6)
+    tie.close (all3 (tie.spec (λ c κs. search needs) returns returns-2) (omega arith) returns-3 (λ c κs. search needs) returns-4 returns-5 returns-6)

@@ -1,5 +1,6 @@
 -- What the callees give, put together.
-use borrow.Author.Needs.{needs}
+use native.Mathlib.Omega.{arith}
+use Rattle.table.proofs.Needs.{all5}
 use Rattle.write.proofs.Next.{drained-of}
 use Rattle.write.proofs.phases.drained.Statement.{statement}
 use Rattle.write.proofs.phases.drained.Tie as tie
@@ -9,11 +10,4 @@ returns c = drained-of (c .before .before .before .before .before .args .c) (c .
 
 pub drained-spec : {M : Type 1} → statement M
 drained-spec =
-    tie.close
-    (tie.spec
-    (λ c κs. search needs)
-    (λ c κs. search needs)
-    (λ c κs. search needs)
-    (λ c κs. search needs)
-    (λ c κs. search needs)
-    returns)
+    tie.close (all5 tie.spec (omega arith) returns)

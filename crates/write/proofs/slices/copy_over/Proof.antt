@@ -3,6 +3,7 @@ use Prim.Native.Nat.{_≤_, _-_}
 use mathlib.Core.Path.{_≡_, _∙_}
 use native.Mathlib.Omega.{arith}
 use borrow.Author.Needs.{needs}
+use Rattle.table.proofs.Needs.{all6}
 use lib.ListN.{length, length-set}
 use Rattle.write.proofs.Lent.{upTo, up-to-more, over-from, over-to}
 use Rattle.write.proofs.slices.copy_over.Statement.{statement}
@@ -31,19 +32,4 @@ returns-2 c =
 
 pub copy-over-spec : {M : Type 1} → statement M
 copy-over-spec =
-    tie.close
-    (tie.spec
-    Inv-loop
-    μ-loop
-    (λ c. search needs)
-    (λ c. search needs)
-    returns
-    (λ c. search needs)
-    (λ c. search needs)
-    (λ c. search needs)
-    (λ c. search needs)
-    (λ c. search needs)
-    (λ c. search needs)
-    loop-again
-    (λ c. search needs)
-    returns-2)
+    tie.close (all6 (tie.spec Inv-loop μ-loop (λ c. search needs) (λ c. search needs) returns) (omega arith) loop-again (λ c. search needs) returns-2)

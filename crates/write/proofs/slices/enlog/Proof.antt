@@ -1,23 +1,10 @@
 -- Three words, one after the other.
-use borrow.Author.Needs.{needs}
+use native.Mathlib.Omega.{arith}
+use Rattle.table.proofs.Needs.{all7}
 use Rattle.write.proofs.Lent.{logged-put}
 use Rattle.write.proofs.slices.enlog.Statement.{statement}
 use Rattle.write.proofs.slices.enlog.Tie as tie
 
-returns : tie.Need-returns
-returns c =
-    let a = c .before .before .before .before .before .before .before .before .before .before .before .before .before .args in
-    logged-put (a .n) (a .kind) (a .key) (a .amount) (a .log .now) (c .before .before .before .before .before .before .before .before .before .before .put .ensures) (c .before .before .before .before .before .before .put2 .ensures) (c .before .before .put3 .ensures)
-
 pub enlog-spec : {M : Type 1} → statement M
 enlog-spec =
-    tie.close
-    (tie.spec
-    (λ c. search needs)
-    (λ c κs. search needs)
-    (λ c. search needs)
-    (λ c κs. search needs)
-    (λ c. search needs)
-    (λ c κs. search needs)
-    (λ c. search needs)
-    returns)
+    tie.close (all7 tie.spec (omega arith) (λ c. search logged-put))

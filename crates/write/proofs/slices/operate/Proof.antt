@@ -1,6 +1,8 @@
 -- By the side of the pointer.
 use mathlib.Core.Path.{ap}
+use native.Mathlib.Omega.{arith}
 use borrow.Author.Needs.{needs}
+use Rattle.table.proofs.Needs.{all3}
 use Rattle.table.specs.Copy.{Out}
 use Rattle.write.specs.Steps.{operated}
 use Rattle.write.proofs.Lent.{of-left, of-right}
@@ -19,5 +21,4 @@ returns-2 c =
 
 pub operate-spec : {M : Type 1} → statement M
 operate-spec =
-    tie.close
-    (tie.spec (λ c κs. search needs) (λ c κs. search needs) (λ c. search needs) returns (λ c. search needs) returns-2)
+    tie.close (all3 tie.spec (omega arith) returns (λ c. search needs) returns-2)

@@ -1,5 +1,7 @@
 -- By the side of the pointer.
+use native.Mathlib.Omega.{arith}
 use borrow.Author.Needs.{needs}
+use Rattle.table.proofs.Needs.{all3}
 use Rattle.write.specs.Steps.{logApplied}
 use Rattle.write.proofs.Lent.{of-left, of-right}
 use Rattle.write.proofs.slices.replay.Statement.{statement}
@@ -17,11 +19,4 @@ returns-2 c =
 
 pub replay-spec : {M : Type 1} → statement M
 replay-spec =
-    tie.close
-    (tie.spec
-    (λ c κs. search needs)
-    (λ c κs. search needs)
-    (λ c. search needs)
-    returns
-    (λ c. search needs)
-    returns-2)
+    tie.close (all3 tie.spec (omega arith) returns (λ c. search needs) returns-2)

@@ -1,5 +1,7 @@
 -- By the side of the pointer.
+use native.Mathlib.Omega.{arith}
 use borrow.Author.Needs.{needs}
+use Rattle.table.proofs.Needs.{all4}
 use Rattle.read.specs.Handles.{copyOf}
 use Rattle.write.specs.Steps.{over}
 use Rattle.write.proofs.Lent.{of-left, of-right}
@@ -18,13 +20,4 @@ returns-2 c =
 
 pub synchronize-spec : {M : Type 1} → statement M
 synchronize-spec =
-    tie.close
-    (tie.spec
-    (λ c κs. search needs)
-    (λ c κs. search needs)
-    (λ c. search needs)
-    (λ c. search needs)
-    returns
-    (λ c. search needs)
-    (λ c. search needs)
-    returns-2)
+    tie.close (all4 tie.spec (omega arith) returns (λ c. search needs) (λ c. search needs) returns-2)
