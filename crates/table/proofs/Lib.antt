@@ -1,4 +1,5 @@
 -- The laws of the count table.
+pub mod Map
 pub mod Contract
 pub mod Split
 pub mod Seek
