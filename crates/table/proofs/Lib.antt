@@ -1,6 +1,9 @@
 -- The laws of the count table.
 pub mod Map
 pub mod Contract
+pub mod Booleans
+pub mod Lists
+pub mod Parity
 pub mod Split
 pub mod Seek
 pub mod Cases
