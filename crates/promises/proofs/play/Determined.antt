@@ -6,11 +6,12 @@ use Rattle.play.specs.Player.{Output}
 use Rattle.play.proofs.schedule.count.Reads as schedule-count
 use Rattle.play.proofs.schedule.check.Reads as schedule-check
 use Rattle.play.proofs.lrt_play.Reads as lrt-play
+use Rattle.promises.proofs.Contracts.{Determines}
 
-schedule-count-determined : (κs : _) (a : _) (r q : _) (s t : _) → schedule-count.Post κs a r s → schedule-count.Post κs a q t → r ≡ q
+schedule-count-determined : Determines schedule-count.Post
 schedule-count-determined κs a r q s t h l = h ∙ sym l
 
-schedule-check-determined : (κs : _) (a : _) (r q : _) (s t : _) → schedule-check.Post κs a r s → schedule-check.Post κs a q t → r ≡ q
+schedule-check-determined : Determines schedule-check.Post
 schedule-check-determined κs a r q s t h l = h ∙ sym l
 
 -- what comes back, and the whole output

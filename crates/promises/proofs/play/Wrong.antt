@@ -9,6 +9,7 @@ use borrow.Author.Tests.{eqb-false}
 use lib.Dec.{eqb, ltb, leb}
 use lib.ListN.{length, getD, take, drop, set, replicate}
 use Rattle.table.proofs.Computes.{apart}
+use Rattle.promises.proofs.Witnesses.{itself}
 use Rattle.promises.proofs.Contracts.{Bytes, slice}
 use Rattle.table.specs.declared.Answer.the-variants as answer
 use Rattle.read.specs.Calls.{lent}
@@ -55,9 +56,6 @@ answered o = o .result .answer
 
 abbrev reported : Output → ℕ
 reported o = o .result .written
-
-abbrev itself : ℕ → ℕ
-itself n = n
 
 -- ---- a player by its parts
 

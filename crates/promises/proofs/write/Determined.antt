@@ -17,6 +17,7 @@ use Rattle.write.proofs.begins.open_on.Reads as open-on
 use Rattle.write.proofs.steps.advance.Reads as advance
 use Rattle.write.proofs.steps.holds.Reads as holds
 use Rattle.write.proofs.steps.place.Reads as place
+use Rattle.promises.proofs.Contracts.{Determines}
 
 -- two outcomes that are both what a rule says
 same :
@@ -47,16 +48,16 @@ run-determined :
     (r ≡ q) × (now (s .1 .0) ≡ now (t .1 .0)) × (now (s .1 .1 .0) ≡ now (t .1 .1 .0)) × (now (s .1 .1 .1 .0) ≡ now (t .1 .1 .1 .0))
 run-determined κs a r q s t h l = same h l
 
-publish-determined : (κs : _) (a : _) (r q : _) (s t : _) → publish.Post κs a r s → publish.Post κs a q t → r ≡ q
+publish-determined : Determines publish.Post
 publish-determined κs a r q s t h l = made-same h l
 
-try-publish-determined : (κs : _) (a : _) (r q : _) (s t : _) → try-publish.Post κs a r s → try-publish.Post κs a q t → r ≡ q
+try-publish-determined : Determines try-publish.Post
 try-publish-determined κs a r q s t h l = made-same h l
 
-flush-determined : (κs : _) (a : _) (r q : _) (s t : _) → flush.Post κs a r s → flush.Post κs a q t → r ≡ q
+flush-determined : Determines flush.Post
 flush-determined κs a r q s t h l = made-same h l
 
-take-determined : (κs : _) (a : _) (r q : _) (s t : _) → take.Post κs a r s → take.Post κs a q t → r ≡ q
+take-determined : Determines take.Post
 take-determined κs a r q s t h l = made-same h l
 
 append-on-determined :
@@ -69,11 +70,11 @@ advance-determined :
     (r ≡ q) × (now (s .1 .1 .1 .0) ≡ now (t .1 .1 .1 .0)) × (now (s .1 .1 .1 .1 .0) ≡ now (t .1 .1 .1 .1 .0)) × (now (s .1 .1 .1 .1 .1 .0) ≡ now (t .1 .1 .1 .1 .1 .0))
 advance-determined κs a r q s t h l = same h l
 
-open-on-determined : (κs : _) (a : _) (r q : _) (s t : _) → open-on.Post κs a r s → open-on.Post κs a q t → r ≡ q
+open-on-determined : Determines open-on.Post
 open-on-determined κs a r q s t h l = h ∙ sym l
 
-holds-determined : (κs : _) (a : _) (r q : _) (s t : _) → holds.Post κs a r s → holds.Post κs a q t → r ≡ q
+holds-determined : Determines holds.Post
 holds-determined κs a r q s t h l = h ∙ sym l
 
-place-determined : (κs : _) (a : _) (r q : _) (s t : _) → place.Post κs a r s → place.Post κs a q t → r ≡ q
+place-determined : Determines place.Post
 place-determined κs a r q s t h l = h ∙ sym l
