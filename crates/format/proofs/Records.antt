@@ -1,13 +1,14 @@
 -- What the tests of a schedule's bytes say of the rules: the mark, and a call that is none.
 use Prim.Native.Nat.{ℕ, _-_, _%_, _≤_, _<_}
 use mathlib.Core.Path.{_≡_, refl, sym, ap, _∙_}
-use mathlib.Core.Bool.{Bool, true, false, _&&_}
+use mathlib.Core.Bool.{true, false}
 use mathlib.Core.List.{List}
 use native.Mathlib.Omega.{arith}
 use borrow.Author.Tests.{lt-ltb, le-ltb, le-leb, lt-leb, eq-eqb, ne-eqb, leb-true, eqb-false}
 use lib.Dec.{eqb, leb}
 use lib.ListN.{length, getD}
 use Rattle.table.proofs.Split.{split}
+use Rattle.table.proofs.Booleans.{both}
 use Rattle.format.specs.declared.Flaw.{Flaw}
 use Rattle.format.specs.Schedule.{headBytes, recordBytes, count, startOf, marked, versionOf, unknownAt, firstUnknown, flaw, flawOf}
 
@@ -43,10 +44,6 @@ module _ (s : List ℕ) (i : ℕ) where
 
 -- ---- what is wrong with a file
 
-and-true : (a b : Bool) → (a && b) ≡ true → a ≡ true
-and-true true b e = refl
-and-true false b e = e
-
 module _ (s : List ℕ) where
   pub flaw-unmarked : marked s ≡ false → flawOf s ≡ flaw 21 0
   unfolding flawOf
@@ -55,7 +52,7 @@ module _ (s : List ℕ) where
   module _ (m : marked s ≡ true) where
     -- a file that is marked has its head
     pub marked-long : 5 ≤ length s
-    marked-long = leb-true 5 (length s) (and-true (leb 5 (length s)) _ m)
+    marked-long = leb-true 5 (length s) (both (leb 5 (length s)) _ m .0)
 
     pub records-within : startOf (count s) ≤ length s
     records-within = omega (arith, marked-long)

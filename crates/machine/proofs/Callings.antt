@@ -1,7 +1,7 @@
 -- A call on the whole machine: judged, and then what stands below the judgement.
 use Prim.Native.Nat.{ℕ}
 use mathlib.Core.Path.{_≡_, refl, sym, ap, _∙_}
-use mathlib.Core.Bool.{Bool, true, false, _&&_, true≢false}
+use mathlib.Core.Bool.{Bool, true, false}
 use mathlib.Core.List.{List}
 use native.Mathlib.Omega.{arith}
 use Rattle.table.specs.declared.Answer.{Answer}
@@ -40,10 +40,6 @@ sized-met : (s b : Bool) →
     ≡ Admitted → b ≡ true
 sized-met true b e = met b answer.Broken e
 sized-met false b e = refused-not e
-
-last-of : (a b : Bool) → (a && b) ≡ true → b ≡ true
-last-of true b e = e
-last-of false b e = absurd (true≢false (sym e))
 
 module _ (c : Control) (l r g : List ℕ) where
   pub judged-whole-control : judged c l r g ≡ Admitted → wholeControl c ≡ true

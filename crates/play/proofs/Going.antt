@@ -43,6 +43,7 @@ use Rattle.play.proofs.Run.{runFrom, run-starts, run-over, run-unrolls}
 use Rattle.play.proofs.Turned.{read-slot, unput}
 use Rattle.read.proofs.Cases.{stateOf}
 use Rattle.read.proofs.Verdicts.{given}
+use Rattle.read.proofs.Phases.{idle-cases, underway-stays}
 use Rattle.write.proofs.Count.{left}
 
 -- ---- what halts a step
@@ -107,38 +108,6 @@ unhalted Gone j held z = absurd (omega arith)
 abbrev verdictOf : Bool → Bool → Verdict
 verdictOf gone busy = given gone answer.Gone (given (eqb (notNow (not busy)) 6) answer.NotNow Admitted)
 
-underway-here : (p : Phase) → underway p ≡ true → isGone p ≡ false
-underway-here Idle u = refl
-underway-here Begin u = refl
-underway-here (Poll k) u = refl
-underway-here Copy u = refl
-underway-here Drain u = refl
-underway-here (Keep k) u = refl
-underway-here Swap u = refl
-underway-here (Snap k) u = refl
-underway-here Null u = refl
-underway-here Lock u = refl
-underway-here (LastSnap k) u = refl
-underway-here (LastPoll k) u = refl
-underway-here Finish u = refl
-underway-here Gone u = sym u
-
-idle-cases : (P : Phase → Type 0) → P Idle → P Gone → (p : Phase) → underway p ≡ false → P p
-idle-cases P x y Idle u = x
-idle-cases P x y Begin u = absurd (true≢false u)
-idle-cases P x y (Poll k) u = absurd (true≢false u)
-idle-cases P x y Copy u = absurd (true≢false u)
-idle-cases P x y Drain u = absurd (true≢false u)
-idle-cases P x y (Keep k) u = absurd (true≢false u)
-idle-cases P x y Swap u = absurd (true≢false u)
-idle-cases P x y (Snap k) u = absurd (true≢false u)
-idle-cases P x y Null u = absurd (true≢false u)
-idle-cases P x y Lock u = absurd (true≢false u)
-idle-cases P x y (LastSnap k) u = absurd (true≢false u)
-idle-cases P x y (LastPoll k) u = absurd (true≢false u)
-idle-cases P x y Finish u = absurd (true≢false u)
-idle-cases P x y Gone u = y
-
 -- what is due of a step, or of a run that has made n
 abbrev pub due : Bool → ℕ → State → List ℕ → List ℕ → List ℕ → Lent Reply
 due true n st l r g = runFrom n st l r g
@@ -153,7 +122,7 @@ module _ (st : State) (l r g : List ℕ) where
 
       going-underway : underway (st .control .phase) ≡ true → going column rule st l r g ≡ rule st l r g
       going-underway u =
-          ap judged verdict ∙ (λ j. judged (verdictOf (underway-here (st .control .phase) u j) (u j)))
+          ap judged verdict ∙ (λ j. judged (verdictOf (underway-stays (st .control .phase) u j) (u j)))
 
       idle-halt :
           (p : Phase) → underway p ≡ false → judged (verdictOf (isGone p) (underway p)) ≡ lent (refusal (halt p (st .control .job) true) st) l r g

@@ -10,7 +10,7 @@ use lib.ListN.{length, getD, take, drop, length-append, length-drop}
 use lib.Seq.{getD-take, drop-at}
 use Rattle.table.proofs.Seek.{seek-before, seek-found}
 use Rattle.table.proofs.Split.{split, under}
-use Rattle.read.proofs.Tests.{and-left, and-right}
+use Rattle.table.proofs.Booleans.{both}
 use Rattle.write.specs.World.{freshWorld}
 use Rattle.format.specs.declared.Flaw.{Flaw}
 use Rattle.format.specs.Schedule.{count, startOf, marked, versionOf, unknownAt, firstUnknown, flaw, flawOf}
@@ -32,11 +32,11 @@ first-three (a ∷ b ∷ c ∷ s) h = refl
 module _ (s : List ℕ) where
   marked-bytes : marked s ≡ true → take 3 s ≡ 76 ∷ 82 ∷ 84 ∷ []
   marked-bytes m =
-      let rest = and-right (leb 5 (length s)) _ m in
-      let last = and-right (eqb (getD s 0 0) 76) _ rest in
-      let a : getD s 0 0 ≡ 76 = eqb-true (getD s 0 0) 76 (and-left (eqb (getD s 0 0) 76) _ rest) in
-      let b : getD s 1 0 ≡ 82 = eqb-true (getD s 1 0) 82 (and-left (eqb (getD s 1 0) 82) _ last) in
-      let c : getD s 2 0 ≡ 84 = eqb-true (getD s 2 0) 84 (and-right (eqb (getD s 1 0) 82) _ last) in
+      let (first, rest) = both (eqb (getD s 0 0) 76) _ (both (leb 5 (length s)) _ m .1) in
+      let (second, third) = both (eqb (getD s 1 0) 82) _ rest in
+      let a : getD s 0 0 ≡ 76 = eqb-true (getD s 0 0) 76 first in
+      let b : getD s 1 0 ≡ 82 = eqb-true (getD s 1 0) 82 second in
+      let c : getD s 2 0 ≡ 84 = eqb-true (getD s 2 0) 84 third in
       first-three s (omega (arith, marked-long s m)) ∙ (λ i. a i ∷ b i ∷ c i ∷ [])
 
   bytes-marked : 5 ≤ length s → take 3 s ≡ 76 ∷ 82 ∷ 84 ∷ [] → marked s ≡ true
@@ -48,8 +48,8 @@ module _ (s : List ℕ) where
   known-bytes : (i : ℕ) → unknownAt s i ≡ false → (1 ≤ getD s (startOf i) 0) × (getD s (startOf i) 0 ≤ 14)
   known-bytes i e =
       let c = getD s (startOf i) 0 in
-      let b = not-false (leb 1 c && leb c 14) e in
-      (leb-true 1 c (and-left (leb 1 c) _ b), leb-true c 14 (and-right (leb 1 c) _ b))
+      let (a, b) = both (leb 1 c) (leb c 14) (not-false (leb 1 c && leb c 14) e) in
+      (leb-true 1 c a, leb-true c 14 b)
 
 -- ---- the walk through the tests
 

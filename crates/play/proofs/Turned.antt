@@ -14,6 +14,7 @@ use Rattle.table.specs.declared.Answer.{Answer}
 use Rattle.table.specs.declared.Answer.the-variants as answer
 use Rattle.table.proofs.Seek.{seek-here, seek-next, seek-end}
 use Rattle.table.proofs.Split.{split}
+use Rattle.table.proofs.Lists.{getD-within}
 use Rattle.read.specs.declared.Control.{Control}
 use Rattle.read.specs.declared.Handle.{Handle}
 use Rattle.read.specs.declared.Slot.{Slot}
@@ -35,7 +36,6 @@ use Rattle.write.specs.Steps.{refused, withLog, ofLeft, ofRight, operated}
 use Rattle.write.specs.Begins.{writerSigns, logged, madeAtOnce, appendOn, columnOf, begun, value, opened, openOn}
 use Rattle.write.specs.Runs.{snapAt, lift}
 use Rattle.write.specs.Machine.{callOn}
-use Rattle.write.proofs.RunLaws.{getD-any}
 use Rattle.play.specs.Turns.{passes, waits, movedAs, turnOn}
 use Rattle.read.proofs.Verdicts.{given}
 
@@ -116,7 +116,7 @@ module _ (ss : List Slot) (i : ℕ) {s : Slot} (e : s ≡ getD ss (within i) noS
 -- within the slots the default does not matter
 pub read-slot : (ss : List Slot) {j : ℕ} (d : Slot) → length ss ≡ slotCount → j < slotTotal → getD ss j d ≡ getD ss j noSlot
 unfolding slotCount
-read-slot ss {j} d n h = getD-any ss j d noSlot (omega arith)
+read-slot ss {j} d n h = getD-within ss j d noSlot (omega arith)
 
 -- ---- the turn
 

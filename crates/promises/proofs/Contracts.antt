@@ -95,3 +95,13 @@ Keeps1 {A = A} has post f = (a : A) → Keeps has post (a, tt) (f a)
 abbrev pub Keeps2 :
     {A B R : Type 0} → (A × (B × Unit {0}) → Bool) → (A × (B × Unit {0}) → R → A × (B × Unit {0}) → Type 0) → (A → B → R) → Type 0
 Keeps2 {A = A} {B = B} has post f = (a : A) (b : B) → Keeps has post (a, (b, tt)) (f a b)
+
+-- ---- a contract that determines
+
+-- any two results that it allows are equal; of a part that is handed back, its words
+abbrev pub Determines : {K : Type 0} {A R S : K → Type 0} → ((κs : K) → A κs → R κs → S κs → Type 0) → Type 0
+Determines {K = K} {A = A} {R = R} {S = S} post = (κs : K) (a : A κs) (r q : R κs) (s t : S κs) → post κs a r s → post κs a q t → r ≡ q
+
+abbrev pub DeterminesWords : {K : Type 0} {A S : K → Type 0} → ((κs : K) → A κs → Ref → S κs → Type 0) → Type 0
+DeterminesWords {K = K} {A = A} {S = S} post =
+    (κs : K) (a : A κs) (r q : Ref) (s t : S κs) → post κs a r s → post κs a q t → r .now ≡ q .now

@@ -1,5 +1,6 @@
 -- The public contracts, as promises of any program: what they are made of, and those of each crate.
 pub mod Contracts
+pub mod Witnesses
 pub mod table
 pub mod read
 pub mod place

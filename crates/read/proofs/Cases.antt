@@ -11,6 +11,7 @@ use Rattle.table.proofs.Split.{split}
 use Rattle.table.specs.Copy.{pairs, words, entries, zeros}
 use Rattle.table.specs.declared.Answer.{Answer}
 use Rattle.table.specs.declared.Answer.the-variants as answer
+use Rattle.table.proofs.Booleans.{both}
 use Rattle.read.specs.declared.Due.{Due}
 use Rattle.read.specs.declared.Due.the-variants.{Load}
 use Rattle.read.specs.declared.Guard.{Guard}
@@ -25,7 +26,6 @@ use Rattle.read.specs.declared.Reply.{Reply}
 use Rattle.read.specs.Machine.{withReading, slotCount, newSlot, fresh, logRoom, logWords, guardCount, shut, isOpen, standsRight, putGuard, firstGuard, anyOpen, wholeControl, sized, glanced, judged, firstUnlawful}
 use Rattle.read.specs.Handles.{copyOf, guardedCopy, bumped, withDue, guarded, loaded, entered, released, smallest, handleSigns, handled, handleOn}
 use Rattle.read.specs.Calls.{slotAt, withSlot, refusal, lent, firstFree, createSigns, handleReply, handleRule, createReply, createRule, throughGuard, throughRule, startRule}
-use Rattle.read.proofs.Tests.{and-left, and-right}
 use Rattle.read.proofs.Verdicts.{refused-not, admitted-unopposed}
 
 -- a state by its parts
@@ -118,18 +118,12 @@ pub record Sized (l r g : List ℕ) : Type 0 where
 module _ (l r g : List ℕ) where
   pub sized-lengths : sized l r g ≡ true → Sized l r g
   sized-lengths e =
-      let a : Bool = eqb (length l) words in
-      let b : Bool = eqb (length r) words in
-      let d : Bool = eqb (length g) logWords in
-      let f : (b && d) ≡ true = and-right a (b && d) e in
-      record {
-        left = eqb-true (length l) words (and-left a (b && d) e);
-        right = eqb-true (length r) words (and-left b d f);
-        log = eqb-true (length g) logWords (and-right b d f);
-      }
+      let (a, f) = both (eqb (length l) words) _ e in
+      let (b, d) = both (eqb (length r) words) _ f in
+      record { left = eqb-true (length l) words a; right = eqb-true (length r) words b; log = eqb-true (length g) logWords d }
 
 whole-length : (c : Control) → wholeControl c ≡ true → c .length ≤ logRoom
-whole-length c e = leb-true (c .length) logRoom (and-left (leb (c .length) logRoom) _ e)
+whole-length c e = leb-true (c .length) logRoom (both (leb (c .length) logRoom) _ e .0)
 
 module _ (c : Control) (l r g : List ℕ) where
   pub glanced-length : sized l r g ≡ false → glanced c l r g ≡ Refused answer.Length
@@ -164,7 +158,7 @@ module _ (c : Control) (l r g : List ℕ) where
   glanced-room e =
       split (sized l r g)
       (λ s. split (leb (entries l) pairs && (leb (entries r) pairs && wholeControl c))
-      (λ w. omega (arith, sized-lengths l r g s, whole-length c (and-right (leb (entries r) pairs) (wholeControl c) (and-right (leb (entries l) pairs) _ w))))
+      (λ w. omega (arith, sized-lengths l r g s, whole-length c (both (leb (entries r) pairs) (wholeControl c) (both (leb (entries l) pairs) _ w .1) .1)))
       (λ w. refused-not (sym (glanced-broken s w) ∙ e)))
       (λ s. refused-not (sym (glanced-length s) ∙ e))
 
@@ -175,12 +169,6 @@ pub used-past : (ss : List Slot) (i : ℕ) (d e : Slot) → d .used ≡ e .used 
 used-past [] i d e h = h
 used-past (s ∷ ss) zero d e h = refl
 used-past (s ∷ ss) (suc i) d e h = used-past ss i d e h
-
--- nor does a read within go by it
-pub getD-within : (ss : List Slot) (i : ℕ) (d e : Slot) → i < length ss → getD ss i d ≡ getD ss i e
-getD-within [] i d e h = absurd (omega arith)
-getD-within (s ∷ ss) zero d e h = refl
-getD-within (s ∷ ss) (suc i) d e h = getD-within ss i d e (omega arith)
 
 -- ---- calls on a handle
 

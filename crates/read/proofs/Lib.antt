@@ -1,5 +1,6 @@
 -- The laws of the reader's side.
-pub mod Tests
+pub mod Same
+pub mod Phases
 pub mod Table
 pub mod Verdicts
 pub mod Cases

@@ -7,7 +7,7 @@ use native.Mathlib.Omega.{arith}
 use borrow.Author.Tests.{eqb-true}
 use lib.Dec.{eqb}
 use lib.ListN.{length, getD}
-use Rattle.read.proofs.Tests.{and-left, and-right}
+use Rattle.table.proofs.Booleans.{both}
 
 -- the test passes at each element of a list and its place, counted from i
 abbrev pub every : {A : Type 0} → (ℕ → A → Bool) → ℕ → List A → Bool
@@ -20,10 +20,10 @@ every-at :
 every-at f d i [] t k h = absurd (omega arith)
 every-at f d i (x ∷ xs) t zero h =
     let e : i + 0 ≡ i = omega arith in
-    ap (λ (n : ℕ). f n x) e ∙ and-left (f i x) (every f (suc i) xs) t
+    ap (λ (n : ℕ). f n x) e ∙ both (f i x) (every f (suc i) xs) t .0
 every-at f d i (x ∷ xs) t (suc k) h =
     let e : i + suc k ≡ suc i + k = omega arith in
-    ap (λ (n : ℕ). f n (getD xs k d)) e ∙ every-at f d (suc i) xs (and-right (f i x) (every f (suc i) xs) t) k (omega arith)
+    ap (λ (n : ℕ). f n (getD xs k d)) e ∙ every-at f d (suc i) xs (both (f i x) (every f (suc i) xs) t .1) k (omega arith)
 
 pub at-every :
     {A : Type 0} (f : ℕ → A → Bool) (d : A) (xs : List A) → every f 0 xs ≡ true → (k : ℕ) → k < length xs → f k (getD xs k d) ≡ true
@@ -41,5 +41,6 @@ pub at-table :
 at-table n rule t e i j h l =
     let row : List ℕ = getD t i [] in
     let r : rowRight n rule i row ≡ true = at-every (rowRight n rule) [] t e i h in
-    let s : length row ≡ n = eqb-true (length row) n (and-left (eqb (length row) n) _ r) in
-    eqb-true (getD row j 0) (rule i j) (at-every (λ k x. eqb x (rule i k)) 0 row (and-right (eqb (length row) n) _ r) j (omega arith))
+    let (p, q) = both (eqb (length row) n) _ r in
+    let s : length row ≡ n = eqb-true (length row) n p in
+    eqb-true (getD row j 0) (rule i j) (at-every (λ k x. eqb x (rule i k)) 0 row q j (omega arith))

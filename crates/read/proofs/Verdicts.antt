@@ -8,10 +8,10 @@ use lib.Dec.{leb}
 use borrow.Author.Tests.{leb-true}
 use Rattle.table.specs.Answers.{number, refusing}
 use Rattle.table.specs.declared.Answer.{Answer}
+use Rattle.table.proofs.Booleans.{both}
 use Rattle.read.specs.declared.Verdict.{Verdict}
 use Rattle.read.specs.declared.Verdict.the-variants.{Admitted, Refused}
 use Rattle.read.specs.Handles.{Sign, sign, smallest}
-use Rattle.read.proofs.Tests.{and-left, and-right}
 
 pub refused-not : {a : Answer} {C : Type 0} → Refused a ≡ Admitted → C
 refused-not e = let z : _≡_ {A = ℕ} 0 1 = cc in absurd (omega arith)
@@ -57,11 +57,10 @@ unfolding smallest
 smallest-mild [] h = tt
 smallest-mild (x ∷ xs) h =
     let n = number (x .answer) in
-    let u = leb 3 n && refusing n in
-    let p = and-left u (mild xs) h in
-    given-mild (x .applies) (x .answer) (smallest xs)
-    (leb-true 3 n (and-left (leb 3 n) (refusing n) p), leb-true n 12 (and-right (leb 1 n) (leb n 12) (and-right (leb 3 n) (refusing n) p)))
-    (smallest-mild xs (and-right u (mild xs) h))
+    let (p, q) = both (leb 3 n && refusing n) (mild xs) h in
+    let (a, b) = both (leb 3 n) (refusing n) p in
+    given-mild (x .applies) (x .answer) (smallest xs) (leb-true 3 n a, leb-true n 12 (both (leb 1 n) (leb n 12) b .1))
+    (smallest-mild xs q)
 
 pub refused-mild : (xs : List Sign) → mild xs ≡ true → (a : Answer) → smallest xs ≡ Refused a → Refusal a
 refused-mild xs h a e = subst Mild e (smallest-mild xs h)

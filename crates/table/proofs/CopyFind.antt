@@ -10,7 +10,7 @@ use lib.ListN.{set}
 use lib.Dec.{eqb, ltb}
 use borrow.Author.Tests.{ltb-true, ltb-false, leb-true, leb-false, eqb-true, eqb-false, lt-ltb, le-ltb, eq-eqb, ne-eqb}
 use Rattle.table.specs.Copy.{pairs, entries, spill, keyAt, countAt, pairOf, placeOf, present, grown, inserted, removed, placed, added, dropped, zeros, applied}
-use Rattle.table.specs.Map.{found}
+use Rattle.table.proofs.Map.{found}
 use Rattle.table.proofs.Split.{split}
 use Rattle.table.proofs.Seek.{seek-bounds, seek-before, seek-found, seek-unique, seek-none}
 

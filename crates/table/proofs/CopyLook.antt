@@ -10,7 +10,7 @@ use lib.ListN.{length, getD, take, drop, set, replicate}
 use lib.Seq.{getD-set-same, getD-set-other, drop-cons}
 use Rattle.table.specs.Copy.{pairs, entries, spill, keyAt, countAt, grown, added, dropped, zeros, fits, lookRule, Fit}
 use Rattle.table.specs.Order.{Rising}
-use Rattle.table.specs.Map.{found}
+use Rattle.table.proofs.Map.{found}
 use Rattle.table.proofs.Split.{split, around, under}
 use Rattle.table.proofs.CopyFind.{Pair, Absent, found-pair, found-absent, pairOf-pair, present-pair, not-present-absent, present-cases, added-cases, dropped-cases}
 use Rattle.table.proofs.CopyWords.{getD-zeros}

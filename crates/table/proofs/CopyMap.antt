@@ -12,7 +12,7 @@ use lib.Seq.{getD-set-same}
 use borrow.Author.Tests.{eqb-true, eqb-false, lt-ltb, le-ltb}
 use Rattle.table.specs.Copy.{pairs, words, entries, spill, countAt, grown, inserted, removed, zeros, added, dropped, applied, Fit}
 use Rattle.table.specs.Order.{empty, Rising, Tidy, Op, after}
-use Rattle.table.specs.Map.{Map, put, addMap, dropMap, emptyMap, appliedMap, afterMap, found, mapOf}
+use Rattle.table.proofs.Map.{Map, put, addMap, dropMap, emptyMap, appliedMap, afterMap, found, mapOf}
 use Rattle.table.proofs.Split.{split}
 use Rattle.table.proofs.CopyFind.{Pair, Absent, Place, found-pair, found-absent, added-cases, dropped-cases}
 use Rattle.table.proofs.CopyWords.{getD-zeros}

@@ -1,19 +1,18 @@
 -- The length and each word of a copy after a pair is put in and after one is taken out.
 -- What a law needs of `inserted` and `removed` it takes from here, and never opens them.
-use Prim.Native.Nat.{ℕ, zero, suc, _+_, _-_, _*_, _≤_, _<_}
-use mathlib.Core.Path.{_≡_, refl, sym, ap, _∙_}
+use Prim.Native.Nat.{ℕ, _+_, _-_, _*_, _≤_, _<_}
+use mathlib.Core.Path.{_≡_, sym, ap, _∙_}
 use mathlib.Core.List.{List, [], _∷_, _++_}
 use native.Mathlib.Omega.{arith}
 use lib.ListN.{length, getD, take, drop, set, replicate, length-append, length-drop, length-set, length-replicate, List·getD-append}
 use lib.Seq.{length-take-le, getD-set-same, getD-set-other, getD-append-add, getD-take, getD-drop}
 use Rattle.table.specs.Copy.{entries, inserted, removed, opened, closed}
+use Rattle.table.proofs.Lists.{getD-same}
 
 -- ---- lists
 
 pub getD-zeros : (n x : ℕ) → getD {A = ℕ} (replicate n 0) x 0 ≡ 0
-getD-zeros zero x = refl
-getD-zeros (suc n) zero = refl
-getD-zeros (suc n) (suc x) = getD-zeros n x
+getD-zeros n x = getD-same n x 0
 
 -- word x of p ++ q, where it is word y of q
 getD-right : (p q : List ℕ) (x y : ℕ) → x ≡ length p + y → getD (p ++ q) x 0 ≡ getD q y 0
@@ -71,19 +70,19 @@ module _ (g m : ℕ) (p : List ℕ) (h : g + m ≤ length p) where
   pub length-closed : length (closed g m p) ≡ length p
   length-closed = simp (length-append, moved, length-replicate, length-drop) (omega arith)
 
-  closed-moved : (x y : ℕ) → y ≡ g + x → x < m → getD (closed g m p) x 0 ≡ getD p y 0
+  pub closed-moved : (x y : ℕ) → y ≡ g + x → x < m → getD (closed g m p) x 0 ≡ getD p y 0
   closed-moved x y e b =
       List·getD-append (take m (drop g p)) _ 0 x (rw moved b)
       ∙ getD-take m (drop g p) x 0 b
       ∙ getD-behind g p y x e
 
-  closed-left : (x : ℕ) → m ≤ x → x < g + m → getD (closed g m p) x 0 ≡ 0
+  pub closed-left : (x : ℕ) → m ≤ x → x < g + m → getD (closed g m p) x 0 ≡ 0
   closed-left x l b =
       getD-right (take m (drop g p)) _ x (x - m) (rw moved (omega arith))
       ∙ List·getD-append (replicate g 0) _ 0 (x - m) (rw length-replicate (omega arith))
       ∙ getD-zeros g (x - m)
 
-  closed-behind : (x : ℕ) → g + m ≤ x → getD (closed g m p) x 0 ≡ getD p x 0
+  pub closed-behind : (x : ℕ) → g + m ≤ x → getD (closed g m p) x 0 ≡ getD p x 0
   closed-behind x b =
       getD-right (take m (drop g p)) _ x (x - m) (rw moved (omega arith))
       ∙ getD-right (replicate g 0) _ (x - m) (x - (g + m)) (rw length-replicate (omega arith))

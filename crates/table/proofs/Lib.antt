@@ -1,6 +1,10 @@
 -- The laws of the count table.
 pub mod Needs
+pub mod Map
 pub mod Contract
+pub mod Booleans
+pub mod Lists
+pub mod Parity
 pub mod Split
 pub mod Seek
 pub mod Cases

@@ -11,6 +11,14 @@ pub split {ℓ} : {C : Type ℓ} (b : Bool) → (b ≡ true → C) → (b ≡ fa
 split true f g = f refl
 split false f g = g refl
 
+-- by what a test chooses
+pub by {ℓ} : {A : Type 0} (P : A → Type ℓ) (b : Bool) {x y : A} → (b ≡ true → P x) → (b ≡ false → P y) → P (elim b [ true ↦ x | false ↦ y ])
+by P true f g = f refl
+by P false f g = g refl
+
+pub below {ℓ} : {A : Type 0} (P : A → Type ℓ) (k n : ℕ) {x y : A} → (k < n → P x) → (n ≤ k → P y) → P (elim (ltb k n) [ true ↦ x | false ↦ y ])
+below P k n f g = by P (ltb k n) (λ e. f (ltb-true k n e)) (λ e. g (ltb-false k n e))
+
 -- a number is below i, i itself, or behind it
 pub around : (C : ℕ → Type 0) (i : ℕ) → ((j : ℕ) → j < i → C j) → C i → ((j : ℕ) → i ≤ j → C (suc j)) → (j : ℕ) → C j
 around C zero f c g zero = c

@@ -2,4 +2,3 @@ pub mod Answers
 pub mod Seek
 pub mod Copy
 pub mod Order
-pub mod Map

@@ -4,11 +4,12 @@ use mathlib.Core.Path.{_≡_, refl}
 use mathlib.Core.Bool.{Bool, true, false, not, _&&_, true≢false}
 use mathlib.Core.List.{List}
 use native.Mathlib.Omega.{arith}
-use lib.Dec.{ltb, leb}
-use borrow.Author.Tests.{ltb-true, ltb-false, leb-false, not-false}
+use lib.Dec.{leb}
+use borrow.Author.Tests.{leb-false, not-false}
 use Rattle.table.specs.Copy.{lawful}
 use Rattle.table.specs.declared.Answer.{Answer}
 use Rattle.table.specs.Answers.{number}
+use Rattle.table.proofs.Split.{by, below}
 use Rattle.read.specs.declared.Phase.{Phase}
 use Rattle.read.specs.declared.Phase.the-variants.{Idle, Begin, Poll, Copy, Drain, Keep, Swap, Snap, Null, LastSnap, LastPoll, Finish}
 use Rattle.read.specs.declared.Job.{Job}
@@ -31,15 +32,6 @@ use Rattle.write.proofs.Verdicts.{judging, append-idle, open-idle}
 -- another job; the phase stays, with its lock
 abbrev pub withJob : Job → Control → Control
 withJob j c = standing (c .phase) j c
-
--- ---- a test, by its value
-
-pub by {ℓ} : {A : Type 0} (P : A → Type ℓ) (b : Bool) {x y : A} → (b ≡ true → P x) → (b ≡ false → P y) → P (elim b [ true ↦ x | false ↦ y ])
-by P true f g = f refl
-by P false f g = g refl
-
-pub below {ℓ} : {A : Type 0} (P : A → Type ℓ) (k n : ℕ) {x y : A} → (k < n → P x) → (n ≤ k → P y) → P (elim (ltb k n) [ true ↦ x | false ↦ y ])
-below P k n f g = by P (ltb k n) (λ e. f (ltb-true k n e)) (λ e. g (ltb-false k n e))
 
 -- ---- the phases
 

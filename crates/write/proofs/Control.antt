@@ -1,12 +1,15 @@
 -- The control part: what makes it whole, as facts, and that every call keeps it whole.
 use Prim.Native.Nat.{ℕ, _+_, _-_, _≤_, _<_}
 use mathlib.Core.Path.{_≡_, refl, sym, ap, subst, _∙_}
-use mathlib.Core.Bool.{Bool, true, false, _&&_, _||_, true≢false}
+use mathlib.Core.Bool.{Bool, true, false, _&&_, _||_}
 use mathlib.Core.List.{List}
 use mathlib.Core.Logic.{_↔_}
 use native.Mathlib.Omega.{arith}
 use lib.Dec.{ltb, leb}
 use borrow.Author.Tests.{ltb-true, leb-true, lt-ltb, le-leb}
+use Rattle.table.proofs.Booleans.{both}
+use Rattle.table.proofs.Split.{by, below}
+use Rattle.read.proofs.Same.{same-equal, equal-same}
 use Rattle.read.specs.declared.Slot.{Slot}
 use Rattle.read.specs.declared.Phase.{Phase}
 use Rattle.read.specs.declared.Phase.the-variants.{Idle, Begin, Poll, Copy, Drain, Keep, Swap, Snap, Null, Lock, LastSnap, LastPoll, Finish, Gone}
@@ -19,7 +22,7 @@ use Rattle.write.specs.declared.Opening.{Opening}
 use Rattle.write.specs.declared.Opening.the-variants as opening
 use Rattle.write.specs.Steps.{at, withLog, copied, swappedOver, nulled, nextJob, keeping, draining, polled, polling, beginning, published, lastPolling, lastSnapping, snapping, ended, holds, stopped, pollMove, lastPollMove, stepAt}
 use Rattle.write.specs.Begins.{appendOn, opened, openOn, taking}
-use Rattle.write.proofs.Cases.{withJob, by, below, append-cases, open-cases, keeping-cases, draining-cases, polled-cases, polling-cases, beginning-cases, lastPolling-cases, lastSnapping-cases, published-cases, snapping-cases}
+use Rattle.write.proofs.Cases.{withJob, append-cases, open-cases, keeping-cases, draining-cases, polled-cases, polling-cases, beginning-cases, lastPolling-cases, lastSnapping-cases, published-cases, snapping-cases}
 
 -- there is a slot: all that is asked of their number
 pub some-slot : 0 < slotCount
@@ -52,41 +55,27 @@ pub record Whole (c : Control) : Type 0 where
   pub locked : c .lock ≡ locks (c .phase)
   pub pointed : c .null ≡ nulls (c .phase)
 
-pub both : (a b : Bool) → (a && b) ≡ true → (a ≡ true) × (b ≡ true)
-both true b e = (refl, e)
-both false b e = absurd (true≢false (sym e))
-
-same-equal : (a b : Bool) → same a b ≡ true → a ≡ b
-same-equal true b e = sym e
-same-equal false true e = e
-same-equal false false e = refl
-
-equal-same : (a b : Bool) → a ≡ b → same a b ≡ true
-equal-same true b e = sym e
-equal-same false true e = e
-equal-same false false e = refl
-
-below-is : (m n : ℕ) → (ltb m n ≡ true) ↔ (m < n)
-below-is m n = (ltb-true m n, lt-ltb m n)
-
 anywhere : (true ≡ true) ↔ Unit {0}
 anywhere = (λ e. tt, λ h. refl)
 
-range-is : (c : Control) (p : Phase) → (inRange c p ≡ true) ↔ Placed (c .length) (c .swapped) p
-range-is c Idle = anywhere
-range-is c Begin = anywhere
-range-is c (Poll k) = below-is k slotCount
-range-is c Copy = anywhere
-range-is c Drain = below-is 0 (c .swapped)
-range-is c (Keep k) = below-is k (c .length)
-range-is c Swap = anywhere
-range-is c (Snap k) = below-is k slotCount
-range-is c Null = anywhere
-range-is c Lock = anywhere
-range-is c (LastSnap k) = below-is k slotCount
-range-is c (LastPoll k) = below-is k slotCount
-range-is c Finish = anywhere
-range-is c Gone = anywhere
+before : (k n : ℕ) → (ltb k n ≡ true) ↔ (k < n)
+before k n = (ltb-true k n, lt-ltb k n)
+
+range-placed : (c : Control) (p : Phase) → (inRange c p ≡ true) ↔ Placed (c .length) (c .swapped) p
+range-placed c Idle = anywhere
+range-placed c Begin = anywhere
+range-placed c (Poll k) = before k slotCount
+range-placed c Copy = anywhere
+range-placed c Drain = before 0 (c .swapped)
+range-placed c (Keep k) = before k (c .length)
+range-placed c Swap = anywhere
+range-placed c (Snap k) = before k slotCount
+range-placed c Null = anywhere
+range-placed c Lock = anywhere
+range-placed c (LastSnap k) = before k slotCount
+range-placed c (LastPoll k) = before k slotCount
+range-placed c Finish = anywhere
+range-placed c Gone = anywhere
 
 pub control-whole : (c : Control) → wholeControl c ≡ true → Whole c
 control-whole c e =
@@ -97,7 +86,7 @@ control-whole c e =
     record {
       room = leb-true _ _ (a .0);
       within = leb-true _ _ (b .0);
-      placed = range-is c (c .phase) .0 (d .0);
+      placed = range-placed c (c .phase) .0 (d .0);
       locked = same-equal _ _ (f .0);
       pointed = same-equal _ _ (f .1);
     }
@@ -107,7 +96,7 @@ all p q r s t = λ i. p i && (q i && (r i && (s i && t i)))
 
 pub whole-control : (c : Control) → Whole c → wholeControl c ≡ true
 whole-control c w =
-    all (le-leb _ _ (w .room)) (le-leb _ _ (w .within)) (range-is c (c .phase) .1 (w .placed))
+    all (le-leb _ _ (w .room)) (le-leb _ _ (w .within)) (range-placed c (c .phase) .1 (w .placed))
     (equal-same _ _ (w .locked)) (equal-same _ _ (w .pointed))
 
 -- ---- where the writer goes on

@@ -11,13 +11,14 @@ use Rattle.table.specs.Copy.{pairs, words, entries}
 use Rattle.table.specs.declared.Answer.{Answer}
 use Rattle.table.specs.declared.Answer.the-variants as answer
 use Rattle.table.proofs.Seek.{seek-before, seek-none}
+use Rattle.table.proofs.Booleans.{both}
 use Rattle.read.specs.declared.Control.{Control}
 use Rattle.read.specs.declared.Verdict.{Verdict}
 use Rattle.read.specs.declared.Verdict.the-variants.{Admitted, Refused}
 use Rattle.read.specs.Machine.{logWords, lawfulAt, firstUnlawful, sized, wholeControl, glanced, judged}
 use Rattle.write.proofs.Count.{left}
 use Rattle.read.proofs.Verdicts.{refused-not}
-use Rattle.write.proofs.Control.{Whole, both, control-whole, whole-control}
+use Rattle.write.proofs.Control.{Whole, control-whole, whole-control}
 use Rattle.write.proofs.Words.{Words}
 
 -- ---- what is judged, as facts

@@ -1,13 +1,14 @@
 -- The count: how many steps are left of a call. A step that is made lowers it by one, and it is 0 exactly where no call is under way.
 use Prim.Native.Nat.{ℕ, zero, suc, _+_, _-_, _*_, _^_, _≤_, _<_}
 use mathlib.Core.Path.{_≡_, refl, sym, ap, _∙_}
-use mathlib.Core.Bool.{Bool, true, false, not, _&&_, true≢false}
+use mathlib.Core.Bool.{Bool, true, false, not, _&&_, true≢false, and-false}
 use mathlib.Core.List.{List}
 use native.Mathlib.Omega.{arith}
 use native.Mathlib.Nat.{sub-zero}
 use Rattle.table.specs.Answers.{number}
 use Rattle.table.specs.declared.Answer.{Answer}
 use Rattle.table.specs.declared.Answer.the-variants as answer
+use Rattle.table.proofs.Split.{below}
 use Rattle.read.specs.declared.Slot.{Slot}
 use Rattle.read.specs.declared.Phase.{Phase}
 use Rattle.read.specs.declared.Phase.the-variants.{Idle, Begin, Poll, Copy, Drain, Keep, Swap, Snap, Null, Lock, LastSnap, LastPoll, Finish, Gone}
@@ -17,11 +18,12 @@ use Rattle.read.specs.declared.Control.{Control}
 use Rattle.read.specs.Machine.{slotCount, logRoom, underway, isGone}
 use Rattle.read.specs.Handles.{bit}
 use Rattle.read.specs.Calls.{Lent, lent}
+use Rattle.read.proofs.Phases.{idle-cases}
 use Rattle.write.specs.declared.Moved.{Moved}
 use Rattle.write.specs.Steps.{at, withLog, copied, swappedOver, nextJob, keeping, draining, polled, polling, beginning, published, lastPolling, lastSnapping, snapping, holds, moved, refused, stopped, pollMove, lastPollMove, stepAt}
 use Rattle.write.specs.Scans.{polls, stopAnswer, haltAnswer}
 use Rattle.write.proofs.Count.{lastLeft, afterLeft, snapLeft, swapLeft, drainLeft, polledLeft, beginLeft, leftAt, left}
-use Rattle.write.proofs.Cases.{withJob, below, keeping-cases, draining-cases, polled-cases, polling-cases, beginning-cases, lastPolling-cases, lastSnapping-cases, snapping-cases}
+use Rattle.write.proofs.Cases.{withJob, keeping-cases, draining-cases, polled-cases, polling-cases, beginning-cases, lastPolling-cases, lastSnapping-cases, snapping-cases}
 use Rattle.write.proofs.Control.{Whole, Fits, fits}
 
 -- ---- the count, where the writer goes on
@@ -155,12 +157,8 @@ module _ (c : Control) (s : Slot) (e : ℕ) where
 pub made-unless-polls : (p : Phase) (j : Job) (b : Bool) → underway p ≡ true → polls p ≡ false → outcome p j b ≡ answer.Done
 made-unless-polls p j b u q = λ i. answered (q i && b) (u i) p j
 
-unheld : (b : Bool) → (b && false) ≡ false
-unheld true = refl
-unheld false = refl
-
 pub made-unless-held : (p : Phase) (j : Job) → underway p ≡ true → outcome p j false ≡ answer.Done
-made-unless-held p j u = λ i. answered (unheld (polls p) i) (u i) p j
+made-unless-held p j u = λ i. answered (and-false (polls p) i) (u i) p j
 
 -- ---- a poll
 
@@ -319,20 +317,7 @@ module _ (c : Control) (s : Slot) (e : ℕ) where
 -- ---- it is 0 exactly where no call is under way
 
 left-none : (c : Control) (p : Phase) → underway p ≡ false → leftAt p c ≡ 0
-left-none c Idle u = refl
-left-none c Begin u = absurd (true≢false u)
-left-none c (Poll k) u = absurd (true≢false u)
-left-none c Copy u = absurd (true≢false u)
-left-none c Drain u = absurd (true≢false u)
-left-none c (Keep k) u = absurd (true≢false u)
-left-none c Swap u = absurd (true≢false u)
-left-none c (Snap k) u = absurd (true≢false u)
-left-none c Null u = absurd (true≢false u)
-left-none c Lock u = absurd (true≢false u)
-left-none c (LastSnap k) u = absurd (true≢false u)
-left-none c (LastPoll k) u = absurd (true≢false u)
-left-none c Finish u = absurd (true≢false u)
-left-none c Gone u = refl
+left-none c = idle-cases (λ p. leftAt p c ≡ 0) refl refl
 
 left-some : (c : Control) (p : Phase) → Fits (c .length) (c .swapped) (c .null) p → underway p ≡ true → 0 < leftAt p c
 left-some c Idle f u = absurd (true≢false (sym u))

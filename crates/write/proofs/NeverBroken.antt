@@ -6,6 +6,7 @@ use native.Mathlib.Omega.{arith}
 use lib.ListN.{length, replicate, length-set, length-replicate}
 use Rattle.table.specs.Copy.{words}
 use Rattle.table.proofs.CopyFit.{fit-empty}
+use Rattle.table.proofs.Split.{below}
 use Rattle.read.specs.declared.Slot.{Slot}
 use Rattle.read.specs.declared.Control.{Control}
 use Rattle.read.specs.declared.State.{State}
@@ -25,7 +26,7 @@ use Rattle.write.specs.Begins.{stepSigns, appendOn, openOn, opened}
 use Rattle.write.specs.Runs.{snapAt, lift, stepOn, enough, runWhile, runOn}
 use Rattle.write.specs.Machine.{going, callOn, callRule}
 use Rattle.write.proofs.Verdicts.{judging}
-use Rattle.write.proofs.Cases.{below, open-cases, run-keeps}
+use Rattle.write.proofs.Cases.{open-cases, run-keeps}
 use Rattle.write.proofs.Control.{some-slot, whole-step, whole-append, whole-open}
 use Rattle.write.proofs.Judged.{Good, good-judged}
 use Rattle.write.proofs.Words.{Words, words-step, words-append}

@@ -10,6 +10,7 @@ use lib.Seq.{set-getD}
 use Rattle.table.specs.Answers.{number}
 use Rattle.table.specs.declared.Answer.{Answer}
 use Rattle.table.specs.declared.Answer.the-variants as answer
+use Rattle.table.proofs.Split.{by, below}
 use Rattle.read.specs.declared.Due.{Due}
 use Rattle.read.specs.declared.Due.the-variants.{Nothing, Load, Restore}
 use Rattle.read.specs.declared.Slot.{Slot}
@@ -34,7 +35,7 @@ use Rattle.write.specs.Runs.{snapAt, lift, stepOn, enough, runOn}
 use Rattle.write.specs.Machine.{going, callOn, callRule}
 use Rattle.read.proofs.Verdicts.{refused-mild}
 use Rattle.write.proofs.Verdicts.{judging, step-underway}
-use Rattle.write.proofs.Cases.{by, below, append-cases, open-cases, run-keeps}
+use Rattle.write.proofs.Cases.{append-cases, open-cases, run-keeps}
 use Rattle.write.proofs.Left.{Stepped, done, held, declined, step-stepped}
 use Rattle.read.proofs.Cases.{stateOf}
 

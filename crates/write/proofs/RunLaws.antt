@@ -3,7 +3,7 @@
 use Prim.Native.Nat.{ℕ, zero, suc, _+_, _-_, _≤_, _<_}
 use mathlib.Core.Path.{_≡_, refl, sym, ap, subst, _∙_}
 use mathlib.Core.Bool.{Bool, true, false, true≢false}
-use mathlib.Core.List.{List, [], _∷_}
+use mathlib.Core.List.{List, []}
 use native.Mathlib.Omega.{arith}
 use lib.ListN.{length, getD, set}
 use lib.Seq.{set-getD}
@@ -30,12 +30,6 @@ use Rattle.write.proofs.Cases.{going-on}
 use Rattle.write.proofs.Control.{Placed, Whole, whole-step}
 use Rattle.write.proofs.Left.{step-answer, made-unless-polls, poll-passed, poll-stopped, lastPoll-passed, lastPoll-stopped, step-lowers, idle-left, underway-left, left-idle, left-underway, manySteps, left-small}
 use Rattle.read.proofs.Cases.{stateOf, withLock}
-
--- where a list is read within its length, the default does not matter
-pub getD-any {ℓ} : {A : Type ℓ} (l : List A) (i : ℕ) (d e : A) → i < length l → getD l i d ≡ getD l i e
-getD-any [] i d e h = absurd (omega arith)
-getD-any (a ∷ l) zero d e h = refl
-getD-any (a ∷ l) (suc i) d e h = getD-any l i d e (omega arith)
 
 -- ---- steps, one by one
 

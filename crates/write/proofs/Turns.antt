@@ -7,6 +7,7 @@ use native.Mathlib.Omega.{arith}
 use lib.ListN.{length, getD, set, length-set}
 use Rattle.table.specs.declared.Answer.{Answer}
 use Rattle.table.specs.declared.Answer.the-variants as answer
+use Rattle.table.proofs.Lists.{getD-within}
 use Rattle.read.specs.declared.Slot.{Slot}
 use Rattle.read.specs.declared.Phase.{Phase}
 use Rattle.read.specs.declared.Phase.the-variants.{Idle, Begin, Poll, Copy, Drain, Keep, Swap, Snap, Null, Lock, LastSnap, LastPoll, Finish, Gone}
@@ -15,7 +16,7 @@ use Rattle.read.specs.declared.State.{State}
 use Rattle.read.specs.declared.Reply.{Reply}
 use Rattle.read.specs.Machine.{slotTotal, slotCount, noSlot, underway, place}
 use Rattle.read.specs.Calls.{Lent, lent, slotAt}
-use Rattle.read.proofs.Cases.{stateOf, getD-within}
+use Rattle.read.proofs.Cases.{stateOf}
 use Rattle.write.specs.declared.Moved.{Moved}
 use Rattle.write.specs.Steps.{holds, stepAt}
 use Rattle.write.specs.Scans.{polls, haltAnswer, halted}

@@ -1,10 +1,11 @@
 -- What is known of a call that is admitted, and of the answer of one that is refused.
-use mathlib.Core.Path.{_≡_, refl}
+use mathlib.Core.Path.{_≡_, refl, ap}
 use mathlib.Core.Bool.{Bool, true, false, not, _||_, true≢false}
 use lib.Dec.{eqb}
 use Rattle.table.specs.declared.Answer.{Answer}
+use Rattle.table.proofs.Booleans.{neither, clash}
 use Rattle.read.specs.declared.Phase.{Phase}
-use Rattle.read.specs.declared.Phase.the-variants.{Idle, Begin, Poll, Copy, Drain, Keep, Swap, Snap, Null, Lock, LastSnap, LastPoll, Finish, Gone}
+use Rattle.read.specs.declared.Phase.the-variants.{Idle}
 use Rattle.read.specs.declared.Control.{Control}
 use Rattle.read.specs.declared.Slot.{Slot}
 use Rattle.read.specs.declared.Verdict.{Verdict}
@@ -16,6 +17,7 @@ use Rattle.write.specs.declared.Opening.{Opening}
 use Rattle.write.specs.declared.Opening.the-variants as opening
 use Rattle.write.specs.Begins.{columnOf, writerSigns, stepSigns}
 use Rattle.read.proofs.Verdicts.{admitted-unopposed}
+use Rattle.read.proofs.Phases.{phase-cases}
 
 -- ---- a verdict, by its value
 
@@ -28,24 +30,9 @@ judging P (Refused a) f g = g a refl
 -- ---- which phase admits the writer's calls
 
 idle-by : (p : Phase) → eqb (notNow (underway p || isGone p)) 6 ≡ false → p ≡ Idle
-idle-by Idle e = refl
-idle-by Begin e = absurd (true≢false e)
-idle-by (Poll k) e = absurd (true≢false e)
-idle-by Copy e = absurd (true≢false e)
-idle-by Drain e = absurd (true≢false e)
-idle-by (Keep k) e = absurd (true≢false e)
-idle-by Swap e = absurd (true≢false e)
-idle-by (Snap k) e = absurd (true≢false e)
-idle-by Null e = absurd (true≢false e)
-idle-by Lock e = absurd (true≢false e)
-idle-by (LastSnap k) e = absurd (true≢false e)
-idle-by (LastPoll k) e = absurd (true≢false e)
-idle-by Finish e = absurd (true≢false e)
-idle-by Gone e = absurd (true≢false e)
-
-neither : (a b : Bool) → (a || b) ≡ false → (a ≡ false) × (b ≡ false)
-neither true b e = absurd (true≢false e)
-neither false b e = (refl, e)
+idle-by =
+    phase-cases (λ p. eqb (notNow (underway p || isGone p)) 6 ≡ false → p ≡ Idle) (λ _. refl) (λ e. clash refl e)
+    (λ p u g e. clash (ap (λ (b : Bool). eqb (notNow (b || isGone p)) 6) u) e)
 
 -- append, in column 7, is admitted in phase Idle alone, and so are the beginnings
 pub append-idle :

@@ -4,13 +4,13 @@ use mathlib.Core.Path.{_≡_, refl, sym, subst, _∙_}
 use mathlib.Core.Bool.{Bool, true, false}
 use mathlib.Core.List.{List, append-nil}
 use native.Mathlib.Omega.{arith}
-use lib.ListN.{length, getD, take, drop, set, length-set, length-replicate, length-drop, drop-of-length-le, List·getD-append}
-use lib.Seq.{length-take-le, take-all, getD-take, getD-drop, getD-set-same, getD-set-other}
+use lib.ListN.{length, getD, set, length-set, length-replicate, drop-of-length-le}
+use lib.Seq.{take-all, getD-set-same, getD-set-other}
 use borrow.Author.Tests.{le-leb}
 use Rattle.table.specs.Copy.{zeros, closed, lawful, Fit}
-use Rattle.table.proofs.Split.{split, under}
+use Rattle.table.proofs.Split.{split, under, below}
 use Rattle.table.proofs.Cases.{close-room, apply-made, apply-unlawful}
-use Rattle.table.proofs.CopyWords.{getD-zeros, length-closed}
+use Rattle.table.proofs.CopyWords.{getD-zeros, length-closed, closed-moved}
 use Rattle.table.proofs.CopyFit.{fit-applied, fit-fits}
 use Rattle.read.specs.declared.Slot.{Slot}
 use Rattle.read.specs.declared.Phase.{Phase}
@@ -24,7 +24,7 @@ use Rattle.read.specs.Calls.{Lent}
 use Rattle.write.specs.declared.Moved.{Moved}
 use Rattle.write.specs.Steps.{ofLeft, ofRight, operated, logApplied, over, unlogged, snapping, swappedOver, holds, stopped, pollMove, lastPollMove, stepAt}
 use Rattle.write.specs.Begins.{logged, appendOn}
-use Rattle.write.proofs.Cases.{below, snapping-cases, append-cases}
+use Rattle.write.proofs.Cases.{snapping-cases, append-cases}
 use Rattle.write.proofs.Control.{Whole, Fits, fits}
 
 -- ---- the copies
@@ -67,12 +67,6 @@ fit-copyOf false l r x y = x
 
 -- ---- the log
 
--- a word behind the gap that is closed
-closed-moved : (d m : ℕ) (g : List ℕ) (x : ℕ) → d + m ≤ length g → x < m → getD (closed d m g) x 0 ≡ getD g (d + x) 0
-closed-moved d m g x h b =
-    let e : length (take m (drop d g)) ≡ m = length-take-le m (drop d g) (rw (length-drop d g) (omega arith)) in
-    List·getD-append (take m (drop d g)) _ 0 x (rw e b) ∙ getD-take m (drop d g) x 0 b ∙ getD-drop d g x 0
-
 alike-lawful :
     (g d : List ℕ) (i j : ℕ) → getD d (3 * j) 0 ≡ getD g (3 * i) 0 → getD d (3 * j + 1) 0 ≡ getD g (3 * i + 1) 0 →
     getD d (3 * j + 2) 0 ≡ getD g (3 * i + 2) 0 → lawfulAt g i ≡ true → lawfulAt d j ≡ true
@@ -87,7 +81,7 @@ module _ (n : ℕ) (g : List ℕ) (some : 0 < n) (room : n ≤ logRoom) (sized :
   length-unlogged = rw (unlogged-closed, length-closed 3 (3 * (n - 1)) g (omega arith)) sized
 
   pub moved-word : (x y : ℕ) → x < 3 * (n - 1) → y ≡ 3 + x → getD (unlogged n g) x 0 ≡ getD g y 0
-  moved-word x y b e = rw (unlogged-closed, e) (closed-moved 3 (3 * (n - 1)) g x (omega arith) b)
+  moved-word x y b e = rw unlogged-closed (closed-moved 3 (3 * (n - 1)) g (omega arith) x y e b)
 
   lawful-unlogged : ((i : ℕ) → i < n → lawfulAt g i ≡ true) → (i : ℕ) → i < n - 1 → lawfulAt (unlogged n g) i ≡ true
   lawful-unlogged h i b =

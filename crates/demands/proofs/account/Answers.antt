@@ -1,7 +1,7 @@
 -- What each call answers is the first row of the table that applies.
 use Prim.Native.Nat.{ℕ, _≤_, _<_}
 use mathlib.Core.Path.{_≡_, refl, sym, ap, _∙_}
-use mathlib.Core.Bool.{Bool, true, false, not, _&&_, _||_}
+use mathlib.Core.Bool.{Bool, true, false, not, _&&_, _||_, and-false, or-false, and-self-left}
 use mathlib.Core.List.{List, [], _∷_, _++_}
 use lib.Dec.{eqb, ltb, leb}
 use borrow.Author.Tests.{lt-ltb, le-ltb}
@@ -9,6 +9,7 @@ use Rattle.table.specs.Seek.{seek}
 use Rattle.table.specs.Copy.{lawful}
 use Rattle.table.proofs.Seek.{seek-suc-here}
 use Rattle.table.proofs.Split.{split}
+use Rattle.table.proofs.Booleans.{neither, clash}
 use Rattle.read.specs.declared.Phase.the-variants.{Idle}
 use Rattle.read.specs.declared.Guard.{Guard}
 use Rattle.read.specs.declared.Slot.{Slot}
@@ -21,6 +22,7 @@ use Rattle.read.specs.Machine.{slotCount, guardCount, logRoom, underway, isGone
 use Rattle.read.specs.Admission.{column, entry}
 use Rattle.read.specs.Handles.{smallest, handleSigns, Sign}
 use Rattle.read.specs.Calls.{createSigns}
+use Rattle.read.proofs.Phases.{underway-stays, gone-is, idle-is}
 use Rattle.write.specs.declared.Opening.{Opening}
 use Rattle.write.specs.declared.Call.{Call}
 use Rattle.write.specs.declared.Call.the-variants.{Create, On, Append, Open, Step}
@@ -31,11 +33,9 @@ use Rattle.demands.specs.Account.{Account, unswapped, inside}
 use Rattle.demands.specs.Table.{least, whatComesBack, wanted, busy, lockHeld, meetsReader}
 use Rattle.demands.proofs.shown.Invariant.{Shape, outside, announced, inside as entered}
 use Rattle.demands.proofs.shown.Guards.{all-shut}
-use Rattle.demands.proofs.Phases.{underway-stays, gone-is, idle-is}
 use Rattle.demands.proofs.account.Control.{stands-at, SteersOf}
 use Rattle.demands.proofs.account.Reader.{Reads, is-inside, is-lowest, misses, answer15}
 use Rattle.demands.proofs.account.Rows.{Agree, none as no-more, skip, same, here, agree-least, signRows, answerNo, rows-least, entry-6, entry-7, entry-create, entry-step, entry-append, busy-is, lock-is, Row, row}
-use Rattle.demands.proofs.Booleans.{clash, and-false, or-false, or-nil}
 
 -- ---- tests
 
@@ -63,10 +63,6 @@ six-on true true = refl
 six-on true false = refl
 six-on false true = refl
 six-on false false = refl
-
-twice : (a b : Bool) → (a && (a && b)) ≡ (a && b)
-twice true b = refl
-twice false b = refl
 
 -- no guard is open where a load is due
 none-all : (gs : List Guard) → anyOpen gs ≡ false → allOpen gs ≡ false
@@ -128,7 +124,7 @@ module _ (a : Account) (c : Control) (h : SteersOf a c) (w : Whole c) where
 
     drop-rows : Rows Drop
     drop-rows =
-        skip (here no-slot (λ _. skip (here six (λ n. here (seven n) (λ _. here (or-nil (inside (a .readers i)) ∙ sym (is-inside rd)) (λ _. same (same (skip (skip (same (same (same no-more))))))))))))
+        skip (here no-slot (λ _. skip (here six (λ n. here (seven n) (λ _. here (or-false (inside (a .readers i)) ∙ sym (is-inside rd)) (λ _. same (same (skip (skip (same (same (same no-more))))))))))))
       where
         six : (isDue (a .readers i .due) || (own && busy a || own && not (a .gone))) ≡ (eqb (entry (c .phase) (column Drop own)) 6 || isDue (s .due))
         six =
@@ -152,14 +148,14 @@ module _ (a : Account) (c : Control) (h : SteersOf a c) (w : Whole c) where
 
     enter-rows : Rows Enter
     enter-rows =
-        skip (here no-slot (λ _. skip (here (six-entry Enter (isDue (a .readers i .due)) (isDue (s .due)) (entry-6 (c .phase) Enter own) due-is) (λ n. here (sym (entry-7 (c .phase) Enter own)) (λ _. same (same (here (ap (leb guardCount) (sym (is-lowest rd))) (λ _. skip (skip (same (same (here (or-nil (inside (a .readers i) && a .taken) ∙ ap (λ (x : Bool). inside (a .readers i) && x) (sym (h .null))) (λ _. no-more)))))))))))))
+        skip (here no-slot (λ _. skip (here (six-entry Enter (isDue (a .readers i .due)) (isDue (s .due)) (entry-6 (c .phase) Enter own) due-is) (λ n. here (sym (entry-7 (c .phase) Enter own)) (λ _. same (same (here (ap (leb guardCount) (sym (is-lowest rd))) (λ _. skip (skip (same (same (here (or-false (inside (a .readers i) && a .taken) ∙ ap (λ (x : Bool). inside (a .readers i) && x) (sym (h .null))) (λ _. no-more)))))))))))))
 
     goOn-rows : Rows GoOn
     goOn-rows =
         skip (here no-slot (λ _. skip (here (six-entry GoOn (not (isDue (a .readers i .due))) (not (isDue (s .due))) (entry-6 (c .phase) GoOn own) (ap not due-is)) (λ n. here (sym (entry-7 (c .phase) GoOn own)) (λ _. same (same (here (sym (room-due s (c .null) sh)) (λ _. skip (skip (same (same (here (ap (λ (x : Bool). x || not (isLoad (a .readers i .due))) (sym (h .null))) (λ _. no-more)))))))))))))
 
     no-guard : (j : ℕ) → not (ltb j guardCount && a .readers i .guards j) ≡ not (isOpen (s .guards) j)
-    no-guard j = ap (λ (x : Bool). not (ltb j guardCount && x)) (sym (rd .guards j)) ∙ ap not (twice (ltb j guardCount) _)
+    no-guard j = ap (λ (x : Bool). not (ltb j guardCount && x)) (sym (rd .guards j)) ∙ ap not (and-self-left (ltb j guardCount) _)
 
     release-rows : (j : ℕ) → Rows (Release j)
     release-rows j =
@@ -213,7 +209,7 @@ module _ (a : Account) (c : Control) (h : SteersOf a c) (w : Whole c) where
     six-write : (x : ℕ) → eqb (entry (c .phase) x) 6 ≡ (underway (c .phase) || isGone (c .phase)) → a .gone ≡ false →
         (busy a || (isDue (a .readers 0 .due) || false)) ≡ (eqb (entry (c .phase) x) 6 || isDue (s .due))
     six-write x q n =
-        (λ j. busy' j || or-nil (isDue (sym (rd .due) j)) j) ∙ ap (λ (y : Bool). y || isDue (s .due)) (sym (or-nil (underway (c .phase))))
+        (λ j. busy' j || or-false (isDue (sym (rd .due) j)) j) ∙ ap (λ (y : Bool). y || isDue (s .due)) (sym (or-false (underway (c .phase))))
         ∙ ap (λ (y : Bool). underway (c .phase) || y || isDue (s .due)) (sym (sym gone' ∙ n)) ∙ ap (λ (y : Bool). y || isDue (s .due)) (sym q)
 
     -- append and the beginnings, in a column of the table of admissions
@@ -227,7 +223,7 @@ module _ (a : Account) (c : Control) (h : SteersOf a c) (w : Whole c) where
         here gone' (λ g. skip (same (here (six-write x q g) (λ n. skip (here (sym (is-inside rd)) (λ _. skip (skip (here (f (idle n g)) (λ _. skip (same (same (same no-more))))))))))))
       where
         idle : (busy a || (isDue (a .readers 0 .due) || false)) ≡ false → a .gone ≡ false → c .phase ≡ Idle
-        idle n g = idle-is (c .phase) (sym busy' ∙ or-false (busy a) _ n .0) (sym gone' ∙ g)
+        idle n g = idle-is (c .phase) (sym busy' ∙ neither (busy a) _ n .0) (sym gone' ∙ g)
 
     pub wanted-append : (kind key amount : ℕ) →
         wanted a (Append kind key amount)
@@ -263,4 +259,4 @@ module _ (a : Account) (c : Control) (h : SteersOf a c) (w : Whole c) where
     where
       rows : Agree (whatComesBack a Step) (signRows (stepSigns 12 c) ++ stops (meetsReader a) (a .trial))
       rows =
-          here gone' (λ _. skip (skip (here (or-nil (not (busy a)) ∙ ap not busy' ∙ sym (entry-step (c .phase))) (λ _. skip (skip (skip (skip (skip (skip (same (same (same no-more))))))))))))
+          here gone' (λ _. skip (skip (here (or-false (not (busy a)) ∙ ap not busy' ∙ sym (entry-step (c .phase))) (λ _. skip (skip (skip (skip (skip (skip (same (same (same no-more))))))))))))

@@ -7,6 +7,7 @@ use native.Mathlib.Omega.{arith}
 use lib.ListN.{replicate}
 use lib.Dec.{ltb}
 use borrow.Author.Tests.{lt-ltb, le-ltb, ltb-false}
+use Rattle.table.proofs.Split.{by}
 use Rattle.read.specs.declared.Phase.{Phase}
 use Rattle.read.specs.declared.Job.{Job}
 use Rattle.read.specs.declared.Job.the-variants.{Publish, Try, TakeFirst}
@@ -14,9 +15,8 @@ use Rattle.read.specs.declared.Control.{Control}
 use Rattle.write.specs.declared.Opening.the-variants as opening
 use Rattle.write.specs.Steps.{at, polling, beginning}
 use Rattle.write.specs.Begins.{taking}
-use Rattle.write.proofs.Cases.{by}
+use Rattle.write.proofs.Cases.{withJob}
 use Rattle.demands.specs.Account.{Move, begin, poll, copy, apply, swap, snap, each, provided, publishing, Store, unswapped, unpublished, publishPlan, planOf}
-use Rattle.demands.proofs.Phases.{withJob}
 use Rattle.demands.proofs.account.Plan.{from-all, lastPlan, afterPlan, swapPlan, polledPlan, beginPlan, plan, plan-beginning, plan-polling}
 
 -- ---- over plain flags and numbers; y: the copies were synchronised

@@ -2,7 +2,7 @@
 use Prim.Native.Nat.{ℕ, zero, suc, _+_, _-_, _%_, _^_, _≤_, _<_}
 use mathlib.Core.Path.{_≡_, refl, sym, ap, _∙_, subst, subst₂}
 use mathlib.Core.Logic.{_≢_}
-use mathlib.Core.Bool.{Bool, true, false, not, _&&_}
+use mathlib.Core.Bool.{Bool, true, false, not, _&&_, and-false}
 use mathlib.Core.List.{List, []}
 use native.Mathlib.Omega.{arith}
 use native.Mathlib.Decide.{ℕ-discrete}
@@ -16,6 +16,9 @@ use Rattle.table.specs.Answers.{number}
 use Rattle.table.specs.Order.{Op}
 use Rattle.table.specs.Copy.{lawful}
 use Rattle.table.specs.Seek.{seek}
+use Rattle.table.proofs.Split.{by, below}
+use Rattle.table.proofs.Booleans.{neither, clash}
+use Rattle.table.proofs.Lists.{at-set}
 use Rattle.read.specs.declared.Phase.{Phase}
 use Rattle.read.specs.declared.Phase.the-variants.{Idle}
 use Rattle.read.specs.declared.Slot.{Slot}
@@ -41,16 +44,15 @@ use Rattle.write.specs.Runs.{withMove, snapAt, lift}
 use Rattle.write.specs.Machine.{callOn}
 use Rattle.write.specs.World.{World, worldOf, reply, answerOf, valueOf}
 use Rattle.write.specs.Numbers.{isRun}
-use Rattle.write.proofs.Cases.{by, below}
 use Rattle.write.proofs.Verdicts.{judging, append-idle, open-idle}
 use Rattle.write.proofs.Control.{Whole, some-slot}
+use Rattle.write.proofs.Cases.{withJob}
 use Rattle.demands.specs.Account.{Reader, Account, withAt, newReader, turned, spoke, unswapped, unpublished, accepts, ofStore, ofReader, missed, withPlan, noted}
 use Rattle.demands.specs.Table.{wanted, wantedValue, worth, worthOn}
 use Rattle.demands.proofs.Others.{on-other, open-other}
 use Rattle.demands.proofs.Passed.{on-passed, WritePassed, write-passed}
-use Rattle.demands.proofs.Phases.{withJob}
 use Rattle.demands.proofs.shown.Invariant.{Held, reachAt, sight, seenOf, Quiet, ViewOf, Inv}
-use Rattle.demands.proofs.shown.Guards.{at-set, none-open, same-at, other-at, new-shut}
+use Rattle.demands.proofs.shown.Guards.{none-open, same-at, other-at, new-shut}
 use Rattle.demands.proofs.shown.Slot.{rowAfter, handled-view, new-view, reload}
 use Rattle.demands.proofs.shown.Log.{length-ops}
 use Rattle.demands.proofs.shown.Stages.{before-null, early-empty}
@@ -62,7 +64,6 @@ use Rattle.demands.proofs.account.Control.{stands-at, SteersOf, Stands,
 use Rattle.demands.proofs.account.Reader.{Reads, misses, answer15, Met, handled-met}
 use Rattle.demands.proofs.account.Rows.{answerNo}
 use Rattle.demands.proofs.account.Answers.{wanted-on, wanted-past, wanted-create, wanted-append, wanted-open}
-use Rattle.demands.proofs.Booleans.{clash, or-false, and-false}
 
 abbrev pub ReadsAll : Account → State → Type 0
 ReadsAll a st = (i : ℕ) → Reads (a .readers i) (slotAt st i) (snapAt st i)
@@ -323,7 +324,7 @@ module _ {w : World} {a : Account} (tie : Tie w a) where
   -- in phase Idle, with slot 0 at rest
   resting : c .phase ≡ Idle → (column : ℕ) (bad full : Bool) → WritePassed column bad full c s0 → Resting (tie .sound) (tie .inv)
   resting q column bad full u =
-      record { idle = q; quiet = record { idle = or-false (eqb (entry (c .phase) column) 6) _ (u .timely) .1; alone = u .guards } }
+      record { idle = q; quiet = record { idle = neither (eqb (entry (c .phase) column) 6) _ (u .timely) .1; alone = u .guards } }
 
   module _ (kind key amount : ℕ) where
     abbrev op : Op

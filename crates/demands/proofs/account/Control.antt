@@ -1,13 +1,13 @@
 -- The control part and the account: the flags, the log and the steps that are left are what the history says.
-use Prim.Native.Nat.{ℕ, suc, _+_, _-_, _%_, _≤_}
+use Prim.Native.Nat.{ℕ, suc, _+_, _-_, _≤_}
 use mathlib.Core.Path.{_≡_, refl, sym, ap, _∙_, subst}
 use mathlib.Core.Bool.{Bool, true, false, not, _||_, true≢false}
 use mathlib.Core.List.{List}
 use native.Mathlib.Omega.{arith}
-use native.Mathlib.Decide.{ℕ-discrete}
 use lib.Dec.{ltb, eqb·suc-zero, leb}
-use borrow.Author.Tests.{eq-eqb, ne-eqb}
 use Rattle.table.specs.Answers.{number}
+use Rattle.table.proofs.Split.{by, below}
+use Rattle.table.proofs.Parity.{odd, odd-next}
 use Rattle.read.specs.declared.Slot.{Slot}
 use Rattle.read.specs.declared.Phase.{Phase}
 use Rattle.read.specs.declared.Phase.the-variants.{Idle, Begin, Poll, Copy, Drain, Keep, Swap, Snap, Null, Lock, LastSnap, LastPoll, Finish, Gone}
@@ -21,11 +21,11 @@ use Rattle.write.specs.declared.Opening.the-variants as opening
 use Rattle.write.specs.Steps.{at, swappedOver, nextJob, keeping, draining, polled, polling, beginning, published, lastPolling, lastSnapping, snapping, holds, pollMove, lastPollMove, stepAt}
 use Rattle.write.specs.Begins.{taking, opened}
 use Rattle.write.specs.Numbers.{isTry}
-use Rattle.write.proofs.Cases.{by, below, keeping-cases, draining-cases, polled-cases, polling-cases, beginning-cases, lastPolling-cases, lastSnapping-cases, snapping-cases}
+use Rattle.write.proofs.Cases.{keeping-cases, draining-cases, polled-cases, polling-cases, beginning-cases, lastPolling-cases, lastSnapping-cases, snapping-cases, withJob}
 use Rattle.write.proofs.Control.{Whole, Fits, fits}
 use Rattle.demands.specs.Account.{Move, null, Store, unswapped, isOdd, Account, withPlan, advanced, onSwap, asked, begins as openingOf}
 use Rattle.demands.proofs.account.Moves.{makes}
-use Rattle.demands.proofs.Phases.{isTryJob, withJob}
+use Rattle.demands.proofs.Phases.{isTryJob}
 use Rattle.demands.proofs.account.Plan.{moveOf, plan, step-plan, not-made}
 use Rattle.demands.proofs.account.Beginnings.{Known, publish-known, try-known, take-known}
 
@@ -133,11 +133,9 @@ module _ {t : Store} {ms : List Move} {trial taken gone : Bool} (c : Control) (h
   goes : {g : Bool} (q : Phase) → Stands (c .length) (c .swapped) (t .inLog) (t .swapIndex) trial g q → Steers t (plan (at q c)) trial taken g (at q c)
   goes q x = record { first = h .first; second = h .second; side = h .side; null = h .null; tries = h .tries; left = refl; stands = x }
 
-odd-next : (n : ℕ) → not (isOdd n) ≡ isOdd (suc n)
-odd-next n = elim (ℕ-discrete (n % 2) 1) [
-  | yes h ↦ simp (eq-eqb (n % 2) 1 h, ne-eqb (suc n % 2) 1 (λ q. omega arith))
-  | no h ↦ simp (ne-eqb (n % 2) 1 h, eq-eqb (suc n % 2) 1 (omega arith))
-]
+side-turns : (n : ℕ) → not (isOdd n) ≡ isOdd (suc n)
+unfolding odd
+side-turns n = sym (odd-next n (suc n) (omega arith))
 
 next-try : (j : Job) → isTryJob (nextJob j) ≡ isTryJob j
 next-try Publish = refl
@@ -211,7 +209,7 @@ module _ (a : Account) (c : Control) (h : SteersOf a c) (w : Whole c) (early : c
         }
     after-at (Keep k) x z f = goes c h (keeping (c .length) (k + 1)) (onto (x .over) (st-keeping (c .length) (c .swapped) (a .store .inLog) (a .store .swapIndex) (a .trial) (k + 1) (x .log .0) (x .log .1)))
     after-at Swap x z f =
-        snapping-steers (onSwap (a .store)) (swappedOver c) 0 (sym (eqb·suc-zero (a .store .swaps))) (h .second) (ap not (h .side) ∙ odd-next (a .store .swaps)) (h .null) (h .tries) (x .log .1) (x .log .1)
+        snapping-steers (onSwap (a .store)) (swappedOver c) 0 (sym (eqb·suc-zero (a .store .swaps))) (h .second) (ap not (h .side) ∙ side-turns (a .store .swaps)) (h .null) (h .tries) (x .log .1) (x .log .1)
         (x .over)
     after-at (Snap k) x z f =
         snapping-steers (a .store) c (k + 1) (h .first) (h .second) (h .side) (h .null) (h .tries) (x .log .0) (x .log .1) (x .over)

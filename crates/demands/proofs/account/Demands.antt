@@ -9,7 +9,9 @@ use lib.Dec.{eqb, ltb}
 use lib.ListN.{getD, List·getD-eq-default}
 use borrow.Author.Tests.{eqb-true, lt-ltb, not-false}
 use Rattle.table.specs.Order.{Op, empty, after}
-use Rattle.table.proofs.Split.{split, under}
+use Rattle.table.proofs.Split.{split, under, by}
+use Rattle.table.proofs.Booleans.{clash}
+use Rattle.table.proofs.Lists.{getD-same}
 use Rattle.read.specs.declared.Phase.{Phase}
 use Rattle.read.specs.declared.Slot.{Slot}
 use Rattle.read.specs.declared.Control.{Control}
@@ -20,13 +22,13 @@ use Rattle.read.specs.Machine.{slotCount, guardCount, noSlot, logWords, fresh, 
 use Rattle.read.specs.Handles.{smallest, handleSigns, guardedCopy, copyOf, Sign}
 use Rattle.read.specs.Calls.{slotAt, throughRule}
 use Rattle.read.proofs.Verdicts.{mild, refused-mild}
+use Rattle.read.proofs.Phases.{gone-is, idle-or-gone}
 use Rattle.write.specs.declared.Call.{Call}
 use Rattle.write.specs.declared.Call.the-variants.{Create, On, Append, Open, Step, Run}
 use Rattle.write.specs.Runs.{snapAt}
 use Rattle.write.specs.Machine.{callOn, callRule}
 use Rattle.write.specs.World.{World, freshWorld, reply, next, answerOf, valueOf}
 use Rattle.write.specs.Numbers.{isRun}
-use Rattle.write.proofs.Cases.{by}
 use Rattle.write.proofs.Verdicts.{judging}
 use Rattle.write.proofs.NeverBroken.{sound-judged, sound-fresh}
 use Rattle.demands.specs.Account.{Reader, Account, freshAccount, newReader, nobody, advanced, ran, noted}
@@ -40,7 +42,7 @@ use Rattle.demands.proofs.shown.Invariant.{seenOf, Stage, opsOf}
 use Rattle.demands.proofs.shown.Guards.{open-below, all-shut, other-at, new-shut}
 use Rattle.demands.proofs.shown.Slot.{guard-inside}
 use Rattle.demands.proofs.shown.Stages.{gone-stage}
-use Rattle.demands.proofs.shown.Fresh.{fresh-inv, free-everywhere}
+use Rattle.demands.proofs.shown.Fresh.{fresh-inv}
 use Rattle.demands.proofs.Sound.{of-rule, sound-next}
 use Rattle.demands.proofs.shown.Lifts.{gone-shut}
 use Rattle.demands.proofs.account.Control.{stands-at}
@@ -49,8 +51,6 @@ use Rattle.demands.proofs.account.Rows.{answerNo, busy-is, row}
 use Rattle.demands.proofs.account.Answers.{wanted-on}
 use Rattle.demands.proofs.account.Calls.{Tie, Right, whole, create-right, handle-right, append-right, open-right}
 use Rattle.demands.proofs.account.Step.{step-right}
-use Rattle.demands.proofs.Phases.{gone-is, idle-or-gone}
-use Rattle.demands.proofs.Booleans.{clash}
 
 -- ---- one call
 
@@ -137,10 +137,10 @@ fresh-all =
     fresh-other i = other-at 0 (newReader nobody) (λ k. nobody) (suc i) (λ e. omega arith)
 
     reads : (i : ℕ) → Reads (freshAccount .readers i) (slotAt fresh i) (snapAt fresh i)
-    reads zero = record { lives = refl; due = refl; guards = new-shut; epoch = refl; snapshot = free-everywhere slotCount 0 0 }
+    reads zero = record { lives = refl; due = refl; guards = new-shut; epoch = refl; snapshot = getD-same slotCount 0 0 }
     reads (suc i) =
-        subst₂ (λ (r : Reader) (s : Slot). Reads r s (snapAt fresh (suc i))) (sym (fresh-other i)) (sym (free-everywhere (slotCount - 1) i noSlot))
-        (record { lives = refl; due = refl; guards = new-shut; epoch = refl; snapshot = free-everywhere slotCount (suc i) 0 })
+        subst₂ (λ (r : Reader) (s : Slot). Reads r s (snapAt fresh (suc i))) (sym (fresh-other i)) (sym (getD-same (slotCount - 1) i noSlot))
+        (record { lives = refl; due = refl; guards = new-shut; epoch = refl; snapshot = getD-same slotCount (suc i) 0 })
 
 pub all-told : (ks : List Call) → Tie (told callRule ks .world) (told callRule ks .account)
 all-told ks = all-telling ks (record { world = freshWorld; account = freshAccount }) fresh-all
@@ -265,7 +265,7 @@ module _ {w : World} {a : Account} (h : Tie w a) where
       (λ p.
       let t = stands-at a (h .steers) p in
       h .inv .unused .log x (omega (arith, t .log .0)))
-      (λ p. ap (λ (g : List ℕ). getD g x 0) (h .inv .spent (ap isGone p)) ∙ free-everywhere logWords x 0)
+      (λ p. ap (λ (g : List ℕ). getD g x 0) (h .inv .spent (ap isGone p)) ∙ getD-same logWords x 0)
       (idle-or-gone (c .phase) (sym (busy-is a c (h .steers) (whole h)) ∙ n))
 
   all-unused : UnusedIn (record { world = w; account = a })

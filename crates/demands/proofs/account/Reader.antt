@@ -1,7 +1,7 @@
 -- One slot and its reader in the account: every handle call that is admitted keeps them alike, and answers what the account says.
 use Prim.Native.Nat.{ℕ, zero, suc, _+_, _%_, _^_}
 use mathlib.Core.Path.{_≡_, refl, sym, ap, _∙_, subst}
-use mathlib.Core.Bool.{Bool, true, false, not, _&&_, _||_}
+use mathlib.Core.Bool.{Bool, true, false, not, _&&_, _||_, or-true}
 use mathlib.Core.List.{List}
 use native.Mathlib.Omega.{arith}
 use lib.ListN.{length, getD}
@@ -12,6 +12,7 @@ use Rattle.table.specs.Answers.{number}
 use Rattle.table.specs.Seek.{seek}
 use Rattle.table.specs.Copy.{lookRule}
 use Rattle.table.specs.Order.{Op, empty, after}
+use Rattle.table.proofs.Booleans.{neither, clash, lacks-none}
 use Rattle.read.specs.declared.Due.{Due}
 use Rattle.read.specs.declared.Due.the-variants.{Nothing, Load, Restore}
 use Rattle.read.specs.declared.Guard.{Guard}
@@ -29,7 +30,6 @@ use Rattle.demands.specs.Table.{worthOn}
 use Rattle.demands.proofs.Passed.{OnPassed}
 use Rattle.demands.proofs.shown.Guards.{same-at, other-at, has-room, open-below, all-shut, at-put}
 use Rattle.demands.proofs.shown.Slot.{rowAfter}
-use Rattle.demands.proofs.Booleans.{clash, or-false, or-true, lacks-none}
 
 pub record Reads (r : Reader) (s : Slot) (e : ℕ) : Type 0 where
   pub lives : s .used ≡ r .lives
@@ -222,7 +222,7 @@ module _ (os : List Op) {r : Reader} {s : Slot} {e : ℕ} (h : Reads r s e) (fou
     handled-met l rr shows own Enter u = enter-met (u .fewer)
     handled-met l rr shows own GoOn u =
         subst (λ (d : Due). (let m = wentOn c (s .due) s in Met (spoke GoOn (number (m .answer)) (m .value) os r) (c .null || not (isLoad d)) (lowest r) GoOn m))
-        (h .due) (go-met (s .due) refl (not-false _ (or-false (eqb (entry (c .phase) (column GoOn own)) 6) _ (u .timely) .1)) (lacks-none _ _ _ (u .fewer)))
+        (h .due) (go-met (s .due) refl (not-false _ (neither (eqb (entry (c .phase) (column GoOn own)) 6) _ (u .timely) .1)) (lacks-none _ _ _ (u .fewer)))
     handled-met l rr shows own (Release j) u = record { reads = released-reads j (not-false _ (u .guard)); answer = refl; value = refl; row = last-row (inside (closes j r)) }
       where
         last : Bool → Reader

@@ -2,13 +2,14 @@
 use Prim.Native.Nat.{ℕ, suc, _<_}
 use mathlib.Core.Path.{_≡_, refl, sym, ap, _∙_}
 use mathlib.Core.Logic.{_≢_, ⊎-elim}
-use mathlib.Core.Bool.{Bool, true, false, not, _&&_, _||_}
+use mathlib.Core.Bool.{Bool, true, false, not, _&&_, _||_, and-false, or-true, or-false}
 use mathlib.Core.List.{List, [], _∷_, _++_}
 use native.Mathlib.Omega.{arith}
 use lib.Dec.{eqb, ltb}
 use borrow.Author.Tests.{eq-eqb, ltb-true}
 use Rattle.table.specs.Answers.{number}
 use Rattle.table.proofs.Split.{split}
+use Rattle.table.proofs.Booleans.{clash, both, or-first}
 use Rattle.read.specs.declared.Phase.{Phase}
 use Rattle.read.specs.declared.Phase.the-variants.{Idle, Begin, Poll, Copy, Drain, Keep, Swap, Snap, Null, Lock, LastSnap, LastPoll, Finish, Gone}
 use Rattle.read.specs.declared.Control.{Control}
@@ -19,6 +20,7 @@ use Rattle.read.specs.declared.Verdict.the-variants.{Admitted, Refused}
 use Rattle.read.specs.Machine.{underway, isGone, locks}
 use Rattle.read.specs.Admission.{handleNumber, column, entry, notNow, locked as lockedNo}
 use Rattle.read.specs.Handles.{Sign, smallest}
+use Rattle.read.proofs.Phases.{idle-or-gone}
 use Rattle.write.specs.declared.Call.{Call}
 use Rattle.write.specs.declared.Call.the-variants.{Create, On, Append, Open, Step, Run}
 use Rattle.write.specs.declared.Opening.the-variants as opening
@@ -29,8 +31,6 @@ use Rattle.demands.specs.Table.{least, busy, lockHeld, meetsReader, what
 use Rattle.demands.proofs.account.Moves.{underLock}
 use Rattle.demands.proofs.account.Plan.{moveOf, plan, plan-head, plan-none}
 use Rattle.demands.proofs.account.Control.{SteersOf}
-use Rattle.demands.proofs.Phases.{idle-or-gone}
-use Rattle.demands.proofs.Booleans.{clash, both, and-false, or-first, or-true, or-nil}
 
 -- ---- rows
 
@@ -106,7 +106,7 @@ is-step Run = refl
 pub declined-tries : (a : Account) (k : Call) → wanted a k ≡ 14 → (isStep k ≡ true) × (a .trial ≡ true)
 unfolding wanted
 declined-tries a k e =
-    let (s, t) = both (is 13 k) (meetsReader a && a .trial) (sym (or-nil _) ∙ least-gives 13 (whatComesBack a k) e) in
+    let (s, t) = both (is 13 k) (meetsReader a && a .trial) (sym (or-false _) ∙ least-gives 13 (whatComesBack a k) e) in
     (sym (is-step k) ∙ s, both (meetsReader a) (a .trial) t .1)
 
 -- where a row applies, 0 is not given

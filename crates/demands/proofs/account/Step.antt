@@ -10,6 +10,9 @@ use lib.Dec.{eqb, leb}
 use borrow.Author.Tests.{lt-leb}
 use Rattle.table.specs.declared.Answer.the-variants as answer
 use Rattle.table.specs.Answers.{number}
+use Rattle.table.proofs.Split.{by}
+use Rattle.table.proofs.Booleans.{clash}
+use Rattle.table.proofs.Lists.{at-set}
 use Rattle.read.specs.declared.Phase.{Phase}
 use Rattle.read.specs.declared.Phase.the-variants.{Idle, Begin, Poll, Copy, Drain, Keep, Swap, Snap, Null, Lock, LastSnap, LastPoll, Finish, Gone}
 use Rattle.read.specs.declared.Job.{Job}
@@ -31,14 +34,13 @@ use Rattle.write.specs.Scans.{polls}
 use Rattle.write.specs.Runs.{snapAt, lift, stepOn}
 use Rattle.write.specs.Machine.{callOn}
 use Rattle.write.specs.World.{World, worldOf, reply}
-use Rattle.write.proofs.Cases.{by}
 use Rattle.write.proofs.Verdicts.{judging, step-underway}
 use Rattle.write.proofs.Control.{Fits, fits, some-slot, whole-step}
 use Rattle.write.proofs.Left.{outcome, step-answer, Stepped, done, held, declined, declinedMove, step-stepped, step-value}
 use Rattle.demands.specs.Account.{Reader, Account, Move, null, withAt, ofReader, readsEpoch, dropped, withPlan, advanced, noted}
 use Rattle.demands.specs.Table.{least, meetsReader, wanted, wantedValue, worth}
 use Rattle.demands.proofs.account.Moves.{makes, meets, isSwap, each-move}
-use Rattle.demands.proofs.shown.Guards.{at-set, same-at, other-at}
+use Rattle.demands.proofs.shown.Guards.{same-at, other-at}
 use Rattle.demands.proofs.shown.Invariant.{sight, seenOf, afterMove, Inv}
 use Rattle.demands.proofs.shown.Steps.{Next, stepOn-keeps}
 use Rattle.demands.proofs.account.Plan.{moveOf, plan, plan-head, step-plan, not-made}
@@ -48,7 +50,6 @@ use Rattle.demands.proofs.account.Rows.{answerNo, isBusy, plan-busy}
 use Rattle.demands.proofs.account.Answers.{stops, wanted-step}
 use Rattle.demands.proofs.account.Calls.{move-same, InvOf, ReadsAll, Tie, Right, value-done, slot-reads, same-loaded, refused-right, mild-right, whole, len, early}
 use Rattle.demands.proofs.Phases.{isTryJob}
-use Rattle.demands.proofs.Booleans.{clash}
 
 -- ---- the polled slot
 

@@ -10,12 +10,13 @@ use Rattle.read.specs.Machine.{underway}
 use Rattle.read.specs.Admission.{entry, notNow}
 use Rattle.read.specs.Handles.{smallest}
 use Rattle.read.specs.Calls.{Lent}
+use Rattle.read.proofs.Phases.{underway-stays}
 use Rattle.write.specs.declared.Call.the-variants.{Step, Run}
 use Rattle.write.specs.Begins.{stepSigns}
 use Rattle.write.specs.Runs.{stepOn, runOn}
 use Rattle.write.specs.Machine.{callOn, going}
 use Rattle.write.specs.World.{World, reply}
-use Rattle.demands.proofs.Phases.{phaseOf, underway-stays}
+use Rattle.demands.proofs.Phases.{phaseOf}
 
 -- ---- step and run are admitted while a call is under way
 

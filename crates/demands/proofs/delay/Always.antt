@@ -2,10 +2,11 @@
 use Prim.Native.Nat.{ℕ, _%_, _^_, _≤_, _<_}
 use mathlib.Core.Path.{_≡_, ap, _∙_}
 use mathlib.Core.Logic.{_≢_}
-use mathlib.Core.Bool.{Bool, true, false, _&&_, true≢false}
+use mathlib.Core.Bool.{Bool, true, false, _&&_, true≢false, and-false}
 use native.Mathlib.Omega.{arith}
 use lib.Dec.{eqb}
 use borrow.Author.Tests.{eqb-true, ne-eqb}
+use Rattle.table.proofs.Booleans.{both}
 use Rattle.read.specs.declared.Due.{Due}
 use Rattle.read.specs.declared.Due.the-variants.{Nothing, Load, Restore}
 use Rattle.read.specs.declared.Handle.{Handle}
@@ -15,7 +16,6 @@ use Rattle.write.specs.World.{Machine, reply, answerOf, valueOf}
 use Rattle.demands.specs.Account.{delays, Reader, isOdd, inside, turned, closes, spoke}
 use Rattle.demands.specs.Follows.{readerAfter, Leaves, MovedOn, Always}
 use Rattle.demands.specs.Demands.{Told, tell, told}
-use Rattle.demands.proofs.Booleans.{and-false, both}
 use Rattle.demands.proofs.delay.Kept.{owned-behind, none-logged, none-met}
 use Rattle.demands.proofs.delay.Counts.{first-steps, second-steps, plan-steps}
 use Rattle.demands.proofs.shown.Guards.{same-at}

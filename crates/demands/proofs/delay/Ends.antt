@@ -2,7 +2,7 @@
 use Prim.Native.Nat.{ℕ, zero, suc, _+_, _-_, _≤_, _<_}
 use mathlib.Core.Path.{_≡_, refl, sym, ap, _∙_, subst}
 use mathlib.Core.Logic.{_≢_}
-use mathlib.Core.Bool.{Bool, true, false, not, _&&_, _||_}
+use mathlib.Core.Bool.{Bool, true, false, not, _&&_, _||_, or-true}
 use mathlib.Core.List.{List, [], _∷_, _++_, append-nil}
 use native.Mathlib.Omega.{arith}
 use lib.ListN.{length, drop, replicate, length-drop}
@@ -10,7 +10,8 @@ use lib.Dec.{eqb, ltb}
 use lib.Seq.{drop-nil, drop-drop}
 use borrow.Author.Tests.{eq-eqb, ne-eqb, eqb-true, eqb-false, ltb-false}
 use Rattle.table.specs.Order.{Op}
-use Rattle.table.proofs.Split.{split}
+use Rattle.table.proofs.Split.{split, by}
+use Rattle.table.proofs.Booleans.{neither, clash}
 use Rattle.read.specs.declared.Control.{Control}
 use Rattle.read.specs.declared.Phase.the-variants.{Idle}
 use Rattle.read.specs.declared.Reply.{Reply}
@@ -25,13 +26,11 @@ use Rattle.write.specs.declared.Opening.the-variants as opening
 use Rattle.write.specs.Numbers.{is, among, isStep, isRun, isTry, isTake}
 use Rattle.write.specs.Machine.{callRule}
 use Rattle.write.specs.World.{World, reply, next, answerOf, valueOf}
-use Rattle.write.proofs.Cases.{by}
 use Rattle.demands.specs.Account.{Account, Store, Reader, ofReader, newReader, spoke, Move, begin, poll, copy, apply, swap, snap, each, provided, publishing, publishPlan, lastPlan, planOf, unswapped, unpublished, withPlan, advanced, ran, ifDeclined, asked, appends, begins as openingBy, ifDone, noted}
 use Rattle.demands.specs.Table.{busy, wanted}
 use Rattle.demands.specs.Demands.{tell, told, afterSteps as steppedWorld}
 use Rattle.demands.specs.Follows.{stepsOf, counted, Course, onward, follow, EndsAt, Follows}
 use Rattle.demands.proofs.Others.{on-other, open-other}
-use Rattle.demands.proofs.Booleans.{clash, or-false, or-true}
 use Rattle.demands.proofs.Sides.{readCopy, writeCopy}
 use Rattle.demands.proofs.shown.Invariant.{Stage, early, late, opsFrom, opsOf}
 use Rattle.demands.proofs.account.Moves.{isSwap, isFinish, each-move, advanced-rest, advanced-trial, ran-keeps}
@@ -367,7 +366,7 @@ module _ {w : World} {a : Account} (h : Tie w a) (o : Opening) (z : wanted a (Op
   take-published : hasSwap (planOf opening.Take s) ≡ false → s .published ≡ s .accepted
   take-published n =
       split (unswapped s || ltb 0 (s .inLog)) (λ e. clash (take-swaps e) n)
-      (λ e. let (f, l) = or-false (unswapped s) _ e in all-published f (omega (arith, ltb-false 0 (s .inLog) l)))
+      (λ e. let (f, l) = neither (unswapped s) _ e in all-published f (omega (arith, ltb-false 0 (s .inLog) l)))
 
   take-finishes : endsFinish (planOf opening.Take s) ≡ true
   unfolding slotCount

@@ -3,13 +3,15 @@
 -- swap comes first.
 use Prim.Native.Nat.{ℕ, zero, suc, _%_, _^_, _≤_}
 use mathlib.Core.Path.{_≡_, refl, sym, ap, _∙_}
-use mathlib.Core.Bool.{Bool, true, false, not, _&&_, _||_}
+use mathlib.Core.Bool.{Bool, true, false, not, _&&_, _||_, and-false}
 use mathlib.Core.List.{List, [], _∷_, _++_}
 use native.Mathlib.Omega.{arith}
 use lib.ListN.{replicate}
 use lib.Dec.{eqb, ltb, eqb·suc-zero}
 use borrow.Author.Tests.{ne-eqb}
 use Rattle.table.specs.Order.{Op}
+use Rattle.table.proofs.Split.{by}
+use Rattle.table.proofs.Booleans.{clash}
 use Rattle.read.specs.declared.Due.{Due}
 use Rattle.read.specs.declared.Due.the-variants.{Nothing, Load, Restore}
 use Rattle.read.specs.declared.Handle.{Handle}
@@ -22,11 +24,9 @@ use Rattle.write.specs.declared.Call.the-variants.{Create, On, Append, Open, St
 use Rattle.write.specs.declared.Opening.the-variants as opening
 use Rattle.write.specs.Numbers.{is}
 use Rattle.write.specs.World.{Machine, reply, answerOf, valueOf}
-use Rattle.write.proofs.Cases.{by}
 use Rattle.demands.specs.Account.{delays, Reader, Store, Account, Move, begin, poll, copy, apply, swap, snap, null, lock, finish, upFrom, provided, publishing, publishPlan, firstInside, planOf, unswapped, withAt, inside, withPlan, turned, closes, missed, spoke, advanced, ran, noted}
 use Rattle.demands.specs.Table.{meetsReader}
 use Rattle.demands.specs.Demands.{Told, freshTold, tell, telling, told}
-use Rattle.demands.proofs.Booleans.{clash, and-false}
 use Rattle.demands.proofs.account.Moves.{meets, isSwap, isSnap, each-move, ran-keeps}
 
 -- ---- plans

@@ -4,9 +4,10 @@ use mathlib.Core.Path.{_≡_, refl, sym, ap, _∙_, subst}
 use mathlib.Core.Logic.{_≢_, _⊎_, inl, inr}
 use mathlib.Core.Bool.{Bool, true, false, not, _&&_, _||_}
 use mathlib.Core.List.{List, [], _∷_}
-use native.Mathlib.Omega.{arith}
 use lib.Dec.{eqb, ltb}
-use borrow.Author.Tests.{eqb-true, eq-eqb, ne-eqb, lt-ltb}
+use borrow.Author.Tests.{ne-eqb, lt-ltb}
+use Rattle.table.proofs.Booleans.{clash}
+use Rattle.table.proofs.Parity.{odd, odd-wrapped}
 use Rattle.read.specs.declared.Handle.the-variants.{GoOn, Release}
 use Rattle.read.specs.declared.Phase.the-variants.{Idle}
 use Rattle.read.specs.declared.Slot.{Slot}
@@ -14,6 +15,7 @@ use Rattle.read.specs.declared.Control.{Control}
 use Rattle.read.specs.Machine.{slotCount, isDue, guardCount, underway, anyOpen}
 use Rattle.read.specs.Handles.{smallest}
 use Rattle.read.specs.Calls.{slotAt}
+use Rattle.read.proofs.Phases.{underway-stays}
 use Rattle.write.specs.declared.Opening.{Opening}
 use Rattle.write.specs.declared.Call.the-variants.{On, Open, Step}
 use Rattle.write.specs.Begins.{writerSigns, columnOf}
@@ -23,7 +25,7 @@ use Rattle.write.proofs.Verdicts.{open-idle}
 use Rattle.demands.specs.Account.{delays, Reader, Account, Move, poll, each, inside}
 use Rattle.demands.specs.Table.{least, busy, meetsReader, wanted}
 use Rattle.demands.specs.Follows.{Named}
-use Rattle.demands.proofs.shown.Invariant.{odd, Shape, outside, announced, inside as entered}
+use Rattle.demands.proofs.shown.Invariant.{Shape, outside, announced, inside as entered}
 use Rattle.demands.proofs.shown.Slot.{at-rest}
 use Rattle.demands.proofs.account.Reader.{is-inside, misses, answer15}
 use Rattle.demands.proofs.shown.Guards.{open-below}
@@ -32,8 +34,6 @@ use Rattle.demands.proofs.account.Rows.{busy-is, row}
 use Rattle.demands.proofs.account.Answers.{wanted-open}
 use Rattle.demands.proofs.account.Calls.{Tie, whole}
 use Rattle.demands.proofs.account.Demands.{living-in, admitted-zero}
-use Rattle.demands.proofs.Phases.{underway-stays}
-use Rattle.demands.proofs.Booleans.{clash}
 
 -- ---- the rules
 
@@ -68,10 +68,7 @@ module _ {w : World} {a : Account} (h : Tie w a) where
 
     odd-epoch : (x : Slot) → x .epoch ≡ r .epoch % 2 ^ 64 → odd (x .epoch) ≡ true
     unfolding odd
-    odd-epoch x e =
-        let d = delaying r s in
-        let z = eqb-true (r .snapshot % 2) 1 (d .odd) in
-        eq-eqb (x .epoch % 2) 1 (ap (λ (n : ℕ). n % 2) (e ∙ sym (d .same)) ∙ (let v : r .snapshot % 2 ^ 64 % 2 ≡ r .snapshot % 2 = omega arith in v ∙ z))
+    odd-epoch x e = let d = delaying r s in ap odd (e ∙ sym (d .same)) ∙ odd-wrapped (r .snapshot) ∙ d .odd
 
     odd-slot : odd (slotAt (w .state) i .epoch) ≡ true
     odd-slot = odd-epoch (slotAt (w .state) i) (h .reads i .epoch)

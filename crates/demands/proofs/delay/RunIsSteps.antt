@@ -5,6 +5,7 @@ use mathlib.Core.Logic.{_≢_}
 use mathlib.Core.Bool.{true, false}
 use native.Mathlib.Omega.{arith}
 use Rattle.table.proofs.Split.{split}
+use Rattle.table.proofs.Booleans.{clash}
 use Rattle.read.specs.declared.Reply.{Reply}
 use Rattle.read.specs.declared.Verdict.{Verdict}
 use Rattle.read.specs.declared.Verdict.the-variants.{Admitted, Refused}
@@ -30,7 +31,6 @@ use Rattle.demands.specs.Demands.{afterSteps}
 use Rattle.demands.proofs.Phases.{phaseOf}
 use Rattle.demands.proofs.Sound.{SoundIn, below}
 use Rattle.demands.proofs.delay.Admitted.{on-step, step-on, run-on}
-use Rattle.demands.proofs.Booleans.{clash}
 
 -- n steps from world w, and then what a run answers and leaves
 pub record Steps (m : Machine) (w : World) (n : ℕ) (answer : ℕ) (after : World) : Type 0 where

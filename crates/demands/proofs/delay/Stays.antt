@@ -6,10 +6,12 @@ use mathlib.Core.Bool.{Bool, true, false, not, _&&_}
 use mathlib.Core.List.{List, [], _∷_}
 use native.Mathlib.Decide.{ℕ-discrete}
 use lib.Dec.{eqb}
-use borrow.Author.Tests.{leb-false}
+use borrow.Author.Tests.{leb-false, not-true}
 use Rattle.table.specs.Order.{Op}
 use Rattle.table.specs.Seek.{seek}
 use Rattle.table.proofs.Seek.{seek-found}
+use Rattle.table.proofs.Split.{by}
+use Rattle.table.proofs.Booleans.{clash}
 use Rattle.read.specs.declared.Due.{Due}
 use Rattle.read.specs.declared.Due.the-variants.{Nothing, Load, Restore}
 use Rattle.read.specs.declared.Control.{Control}
@@ -26,7 +28,6 @@ use Rattle.write.specs.declared.Call.the-variants.{Create, On, Append, Open, St
 use Rattle.write.specs.Machine.{callRule}
 use Rattle.write.specs.World.{World, reply, answerOf, valueOf}
 use Rattle.write.specs.Numbers.{is, isRun}
-use Rattle.write.proofs.Cases.{by}
 use Rattle.demands.specs.Account.{Reader, Account, Move, withAt, lowest, inside, newReader, dropped, turned, opens, closes, readsEpoch, missed, spoke, unswapped, withPlan, advanced, ran, ifDeclined, noted}
 use Rattle.demands.specs.Table.{wantedValue, worth, worthOn}
 use Rattle.demands.proofs.Others.{on-other}
@@ -35,7 +36,6 @@ use Rattle.demands.proofs.account.Moves.{no-move, ran-keeps}
 use Rattle.demands.proofs.account.Answers.{wanted-create}
 use Rattle.demands.proofs.account.Calls.{Tie, whole}
 use Rattle.demands.proofs.account.Demands.{admitted-zero, right, owner}
-use Rattle.demands.proofs.Booleans.{clash}
 
 module _ (j : ℕ) where
   -- guard j, if it is open, stays so with what it loaded
@@ -149,11 +149,7 @@ module _ {w : World} {a : Account} (h : Tie w a) (i j : ℕ) where
       let v = admitted-zero (smallest signs) signs refl 0 refl
       (sym (wanted-create a c (h .steers) (whole h) f refl) ∙ sym (right h Create refl .answer) ∙ z) in
       let lt = leb-false slotCount f (admitted-unopposed signs v .1 .0) in
-      subst (λ (x : ℕ). a .readers x .lives ≡ false) (sym (worth-is Create refl z)) (shut (a .readers f .lives) (seek-found (λ k. not (a .readers k .lives)) slotCount lt))
-    where
-      shut : (b : Bool) → not b ≡ true → b ≡ false
-      shut true e = clash refl (sym e)
-      shut false e = refl
+      subst (λ (x : ℕ). a .readers x .lives ≡ false) (sym (worth-is Create refl z)) (not-true (a .readers f .lives) (seek-found (λ k. not (a .readers k .lives)) slotCount lt))
 
   create-stays : (n v : ℕ) → (n ≡ 0 → a .readers v .lives ≡ false) → Stays j (a .readers i) (noted Create n v a .readers i)
   create-stays zero v f = at-stays j (a .readers) v (newReader (a .readers v)) i (λ e o. clash (owner h v j o) (f refl))

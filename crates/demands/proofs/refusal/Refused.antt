@@ -7,16 +7,15 @@ use lib.Dec.{eqb, leb}
 use borrow.Author.Tests.{eqb-true, leb-true}
 use Rattle.table.specs.Answers.{refusing}
 use Rattle.table.proofs.Split.{split}
+use Rattle.table.proofs.Booleans.{clash, both}
 use Rattle.read.specs.Calls.{lent, refusal}
 use Rattle.write.specs.declared.Call.{Call}
 use Rattle.write.specs.declared.Call.the-variants.{Create, On, Append, Open, Step, Run}
 use Rattle.write.specs.Numbers.{isStep}
 use Rattle.write.specs.Machine.{callRule}
 use Rattle.write.specs.World.{World, worldOf, reply, answerOf, valueOf}
-use Rattle.write.proofs.Control.{both}
 use Rattle.write.proofs.Refusals.{stillUpTo, still-large, refusal-same}
 use Rattle.demands.specs.Demand1.{refuses, Demand1}
-use Rattle.demands.proofs.Booleans.{clash}
 use Rattle.demands.proofs.refusal.Judged.{unsized-1, broken-2, otherwise-none}
 
 -- 13 is one of a single step alone

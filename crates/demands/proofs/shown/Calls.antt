@@ -12,6 +12,7 @@ use Rattle.table.specs.Copy.{lawful}
 use Rattle.table.specs.Order.{Op, after}
 use Rattle.table.proofs.Cases.{apply-made}
 use Rattle.table.proofs.CopyFit.{fit-fits}
+use Rattle.table.proofs.Booleans.{neither, clash}
 use Rattle.read.specs.declared.Phase.{Phase}
 use Rattle.read.specs.declared.Phase.the-variants.{Idle}
 use Rattle.read.specs.declared.Job.{Job}
@@ -23,11 +24,13 @@ use Rattle.read.specs.Machine.{logRoom, underway, isGone}
 use Rattle.read.specs.Admission.{column, entry, notNow}
 use Rattle.read.specs.Handles.{withDue}
 use Rattle.read.specs.Calls.{lent, slotAt}
+use Rattle.read.proofs.Phases.{gone-is}
 use Rattle.write.specs.Steps.{polling, at, withLog, operated}
 use Rattle.write.specs.Begins.{taking, logged, madeAtOnce, appendFirst, begun}
 use Rattle.write.specs.Runs.{snapAt, lift}
 use Rattle.write.specs.World.{World, worldOf}
 use Rattle.write.proofs.Control.{some-slot}
+use Rattle.write.proofs.Cases.{withJob}
 use Rattle.demands.proofs.Passed.{OnPassed}
 use Rattle.demands.proofs.Sides.{readCopy, writeCopy}
 use Rattle.demands.proofs.shown.Invariant.{Seen, sight, Quiet, Stage, Inv, opsFrom, opsOf, reachAt, firstly, orAll}
@@ -38,8 +41,6 @@ use Rattle.demands.proofs.shown.Stages.{Begins, begins-polling, begins-
 use Rattle.demands.proofs.shown.Lifts.{ctl, world, withControl, slotBack, snapBack, StageIn, snap-back, both-back, slot-keeps, control-keeps, write-keeps}
 use Rattle.demands.proofs.Sound.{SoundIn, sound-slot}
 use Rattle.demands.proofs.shown.Steps.{fit-write}
-use Rattle.demands.proofs.Phases.{withJob, gone-is}
-use Rattle.demands.proofs.Booleans.{clash, or-false}
 
 -- ---- slot 0 is left alone while a call of the writer is under way
 
@@ -66,7 +67,7 @@ module _ {w : World} {t : Seen} (sound : SoundIn w) (inv : Inv w t) where
       clash r
       (own-rests (ctl w .phase) h
       (subst (λ (b : Bool). eqb (entry (ctl w .phase) (column h b)) 6 ≡ false) (eq-eqb i 0 z)
-      (or-false (eqb (entry (ctl w .phase) (column h (eqb i 0))) 6) _ (u .timely) .0)))
+      (neither (eqb (entry (ctl w .phase) (column h (eqb i 0))) 6) _ (u .timely) .0)))
 
   -- ---- the writer's calls that are made at once
 

@@ -10,6 +10,8 @@ use native.Mathlib.Nat.{le-refl}
 use lib.ListN.{length, getD, set, replicate, List·getD-eq-default}
 use lib.Seq.{set-getD}
 use Rattle.table.specs.Order.{Op}
+use Rattle.table.proofs.Booleans.{clash}
+use Rattle.table.proofs.Lists.{at-set}
 use Rattle.read.specs.declared.Phase.{Phase}
 use Rattle.read.specs.declared.Phase.the-variants.{Gone}
 use Rattle.read.specs.declared.Job.{Job}
@@ -25,10 +27,9 @@ use Rattle.demands.proofs.Sound.{SoundIn}
 use Rattle.demands.proofs.Sides.{readCopy, writeCopy}
 use Rattle.demands.proofs.shown.Invariant.{Seen, sight, Quiet, Reach, reachAt, orAll, firstly, View, ViewOf, ClearLog, Stage, Inv, opsFrom, opsOf}
 use Rattle.demands.proofs.shown.Unused.{KeepsClear, written-unused}
-use Rattle.demands.proofs.shown.Guards.{at-set, all-shut, none-open}
+use Rattle.demands.proofs.shown.Guards.{all-shut, none-open}
 use Rattle.demands.proofs.shown.Stages.{Stands, steered, onward}
 use Rattle.demands.proofs.shown.Slot.{Within, within-firstly, weaken, written-view, snapped-view}
-use Rattle.demands.proofs.Booleans.{clash}
 use Rattle.read.proofs.Cases.{stateOf}
 
 abbrev pub ctl : World → Control

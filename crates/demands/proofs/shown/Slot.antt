@@ -11,6 +11,9 @@ use lib.Dec.{eqb}
 use borrow.Author.Tests.{eq-eqb, not-false}
 use Rattle.table.specs.Answers.{number}
 use Rattle.table.specs.Order.{Op, empty, after}
+use Rattle.table.proofs.Split.{by}
+use Rattle.table.proofs.Booleans.{neither, clash, lacks-none, not-self}
+use Rattle.table.proofs.Parity.{odd, odd-bumped, odd-twice, odd-zero}
 use Rattle.read.specs.declared.Due.{Due}
 use Rattle.read.specs.declared.Due.the-variants.{Nothing, Load, Restore}
 use Rattle.read.specs.declared.Guard.{Guard}
@@ -23,12 +26,10 @@ use Rattle.read.specs.Machine.{openOn, withReading, slotCount, guardCount, shut
 use Rattle.read.specs.Handles.{withDue, freed, guarded, loaded, entered, wentOn, released, copyOf, mistimed, handled}
 use Rattle.read.specs.Admission.{column, entry, handleNumber}
 use Rattle.write.specs.Steps.{holds, seen}
-use Rattle.write.proofs.Cases.{by}
 use Rattle.demands.specs.Account.{withAt}
 use Rattle.demands.proofs.Passed.{OnPassed}
-use Rattle.demands.proofs.shown.Invariant.{odd, Shape, outside, announced, inside, Quiet, Reach, reach, before, firstly, Held, View}
-use Rattle.demands.proofs.shown.Guards.{not-self, odd-bumped, odd-twice, odd-zero, same-at, other-at, all-shut, open-below, some-open, none-open, has-room, put-four, at-put}
-use Rattle.demands.proofs.Booleans.{clash, or-false, lacks-none}
+use Rattle.demands.proofs.shown.Invariant.{Shape, outside, announced, inside, Quiet, Reach, reach, before, firstly, Held, View}
+use Rattle.demands.proofs.shown.Guards.{same-at, other-at, all-shut, open-below, some-open, none-open, has-room, put-four, at-put}
 
 -- ---- the shape
 
@@ -179,7 +180,7 @@ module _ (c : Control) {h : Reach} {i snap : ℕ} {l r : List ℕ} {f : ℕ → 
         no-guards (v .four) (outside (odd-bumped (s .epoch) ∙ ap not od) refl sh) sh
 
     timely : (own : Bool) (hd : Handle) → OnPassed c own s hd → mistimed (handleNumber hd) (s .due) ≡ false
-    timely own hd u = or-false (eqb (entry (c .phase) (column hd own)) 6) _ (u .timely) .1
+    timely own hd u = neither (eqb (entry (c .phase) (column hd own)) 6) _ (u .timely) .1
 
     pub handled-view : (own : Bool) (hd : Handle) → OnPassed c own s hd → Kept hd (handled c s hd l r)
     unfolding handled

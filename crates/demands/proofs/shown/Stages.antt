@@ -11,6 +11,8 @@ use lib.Dec.{ltb}
 use borrow.Author.Tests.{ltb-false}
 use Rattle.table.specs.Copy.{applied}
 use Rattle.table.specs.Order.{Op, empty, after}
+use Rattle.table.proofs.Split.{by, below}
+use Rattle.table.proofs.Booleans.{neither, clash}
 use Rattle.read.specs.declared.Phase.{Phase}
 use Rattle.read.specs.declared.Phase.the-variants.{Idle, Begin, Poll, Copy, Drain, Keep, Swap, Snap, Null, Lock, LastSnap, LastPoll, Finish, Gone}
 use Rattle.read.specs.declared.Job.{Job}
@@ -19,10 +21,9 @@ use Rattle.read.specs.declared.Control.{Control}
 use Rattle.read.specs.Machine.{slotCount, isGone, nulls}
 use Rattle.write.specs.Steps.{keeping, draining, polled, polling, beginning, published, nextJob, lastPolling, lastSnapping, snapping}
 use Rattle.write.specs.Begins.{taking}
-use Rattle.write.proofs.Cases.{by, below, keeping-cases, draining-cases, polled-cases, polling-cases, beginning-cases, lastPolling-cases, lastSnapping-cases, snapping-cases}
+use Rattle.write.proofs.Cases.{keeping-cases, draining-cases, polled-cases, polling-cases, beginning-cases, lastPolling-cases, lastSnapping-cases, snapping-cases}
 use Rattle.demands.proofs.shown.Invariant.{Stage, early, late, Lacks, isSecond, Reach, reach, before, reachAt, firstly}
 use Rattle.demands.proofs.shown.Log.{noOp}
-use Rattle.demands.proofs.Booleans.{clash, or-false}
 
 pub after-append : (a b : List Op) (w : List ℕ) → after (a ++ b) w ≡ after b (after a w)
 after-append [] b w = refl
@@ -313,8 +314,8 @@ take-stage {j} {os} {r} {w} {acc} {pb} c ln h =
     by (λ p. Stage p TakeFirst (c .second) (c .swapped) os r w acc pb (c .first)) (c .first || ltb 0 (c .length))
     (λ _. begin-stage refl h)
     (λ q.
-    let z : c .length ≤ 0 = ltb-false 0 (c .length) (or-false (c .first) _ q .1) in
-    to-null h (or-false (c .first) _ q .0) (no-ops os (omega arith)))
+    let z : c .length ≤ 0 = ltb-false 0 (c .length) (neither (c .first) _ q .1) in
+    to-null h (neither (c .first) _ q .0) (no-ops os (omega arith)))
   where
     to-null : {b : Bool} {s : ℕ} {f : Bool} → Stage Idle j b s os r w acc pb f → f ≡ false → os ≡ [] → Stage Null TakeFirst b s os r w acc pb f
     to-null (early e h) q z = clash e q

@@ -11,6 +11,8 @@ use lib.Seq.{drop-cons, drop-length}
 use Rattle.table.specs.Copy.{zeros, Fit}
 use Rattle.table.specs.Order.{Op, empty, after, Clear}
 use Rattle.table.proofs.CopyWords.{getD-zeros}
+use Rattle.table.proofs.Split.{by}
+use Rattle.table.proofs.Booleans.{clash}
 use Rattle.read.specs.declared.Phase.{Phase}
 use Rattle.read.specs.declared.Phase.the-variants.{Idle, Begin, Poll, Copy, Drain, Keep, Swap, Snap, Null, Lock, LastSnap, LastPoll, Finish, Gone}
 use Rattle.read.specs.declared.Job.{Job}
@@ -24,7 +26,6 @@ use Rattle.write.specs.declared.Moved.{Moved}
 use Rattle.write.specs.Steps.{holds, seen, snapping, swappedOver, logApplied, over, unlogged, moved, stopped, stepAt}
 use Rattle.write.specs.Runs.{snapAt, lift, stepOn}
 use Rattle.write.specs.World.{World, worldOf, answerOf}
-use Rattle.write.proofs.Cases.{by}
 use Rattle.write.proofs.Control.{Placed, some-slot}
 use Rattle.demands.proofs.Sound.{SoundIn, sound-slot}
 use Rattle.demands.proofs.account.Plan.{moveOf}
@@ -35,7 +36,6 @@ use Rattle.demands.proofs.shown.Log.{noOp, length-ops, op-ops, ops-unlo
 use Rattle.demands.proofs.shown.Stages.{Stands, here, stands-keeping, stands-draining, stands-polling, begins-beginning, stands-snapping, stands-lastPolling, stands-lastSnapping, snapping-onward, steered, onward, full, stage-polling, stage-beginning, stage-snapping, idle-stage, poll-stage, copy-stage, drain-stage, keep-stage, snap-stage, swap-stage, from-null, from-lock, from-lastSnap, from-lastPoll, from-finish, to-lock, to-lastPolling, to-lastSnapping, to-gone}
 use Rattle.demands.proofs.shown.Unused.{KeepsClear, of-copy, clear-over, clear-logApplied, clear-zeros, clear-unlogged}
 use Rattle.demands.proofs.shown.Lifts.{ctl, withControl, wrote, slotBack, snapTo, snapBack, slot-back, snap-back, both-back, ViewAs, StageIn, slot-keeps, control-keeps, write-keeps, snap-keeps}
-use Rattle.demands.proofs.Booleans.{clash}
 
 -- where all are cleared, they are before the first swap too
 all-full : (f : Bool) {k : ℕ} → k ≡ slotCount → orAll f k ≡ slotCount

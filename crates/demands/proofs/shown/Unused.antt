@@ -1,24 +1,23 @@
 -- Words that are not used stay zero: those of a copy behind its used part, and the log's behind its operations.
-use Prim.Native.Nat.{ℕ, zero, suc, _+_, _-_, _*_, _≤_, _<_}
-use mathlib.Core.Path.{_≡_, refl, sym, ap, _∙_, subst}
+use Prim.Native.Nat.{ℕ, _+_, _-_, _*_, _≤_, _<_}
+use mathlib.Core.Path.{_≡_, sym, _∙_, subst}
 use mathlib.Core.Bool.{Bool, true, false}
-use mathlib.Core.List.{List, _++_}
+use mathlib.Core.List.{List}
 use native.Mathlib.Omega.{arith}
-use lib.ListN.{length, getD, take, drop, set, replicate, length-drop}
-use lib.Seq.{length-take-le, getD-append-add, getD-drop, getD-set-other}
+use lib.ListN.{length, getD, set, replicate}
+use lib.Seq.{getD-set-other}
 use borrow.Author.Tests.{le-leb}
 use Rattle.table.specs.Copy.{words, lawful, closed, zeros, Fit}
 use Rattle.table.specs.Order.{Clear}
-use Rattle.table.proofs.Split.{split}
+use Rattle.table.proofs.Split.{split, below, under}
 use Rattle.table.proofs.Cases.{close-room, apply-made, apply-unlawful}
-use Rattle.table.proofs.CopyWords.{getD-zeros}
+use Rattle.table.proofs.CopyWords.{getD-zeros, closed-left, closed-behind}
 use Rattle.table.proofs.CopyFit.{fit-fits}
 use Rattle.table.proofs.CopyOrder.{clear-applied, clear-empty}
 use Rattle.read.specs.Machine.{logRoom, logWords}
 use Rattle.read.specs.Handles.{copyOf}
 use Rattle.write.specs.Steps.{ofLeft, ofRight, operated, logApplied, over, unlogged}
 use Rattle.write.specs.Begins.{logged}
-use Rattle.write.proofs.Cases.{below}
 use Rattle.demands.proofs.shown.Invariant.{ClearLog, Unused}
 use Rattle.demands.proofs.shown.Log.{over-whole}
 
@@ -59,21 +58,11 @@ clear-logged n kind key amount g c x b =
     ∙ getD-set-other g (3 * n) x kind 0 (omega arith)
     ∙ c x (omega arith)
 
-zeros-before : (n : ℕ) (q : List ℕ) → ((y : ℕ) → getD q y 0 ≡ 0) → (y : ℕ) → getD (replicate n 0 ++ q) y 0 ≡ 0
-zeros-before zero q h y = h y
-zeros-before (suc n) q h zero = refl
-zeros-before (suc n) q h (suc y) = zeros-before n q h y
-
 -- where the words behind those that move down are zero, all behind them is zero afterwards
 closed-zero :
     (d m : ℕ) (g : List ℕ) → d + m ≤ length g → ((x : ℕ) → d + m ≤ x → getD g x 0 ≡ 0) → (x : ℕ) → m ≤ x → getD (closed d m g) x 0 ≡ 0
 closed-zero d m g h c x b =
-    let p = take m (drop d g) in
-    let e : length p ≡ m = length-take-le m (drop d g) (rw (length-drop d g) (omega arith)) in
-    let i : x ≡ length p + (x - m) = omega arith in
-    ap (λ (k : ℕ). getD (closed d m g) k 0) i
-    ∙ getD-append-add p _ (x - m) 0
-    ∙ zeros-before d _ (λ y. getD-drop (d + m) g y 0 ∙ c (d + m + y) (omega arith)) (x - m)
+    under x (d + m) (λ l. closed-left d m g h x b l) (λ l. closed-behind d m g h x l ∙ c x l)
 
 pub clear-unlogged : (n : ℕ) (g : List ℕ) → 0 < n → n ≤ logRoom → length g ≡ logWords → ClearLog n g → ClearLog (n - 1) (unlogged n g)
 clear-unlogged n g some room sized c x b =

@@ -20,11 +20,12 @@ use Rattle.place.specs.Release.{releaseRule}
 use Rattle.place.proofs.Inner as inner
 use Rattle.place.proofs.leave.Reads as leave
 use Rattle.place.proofs.release as release
+use Rattle.promises.proofs.Contracts.{Determines}
 
-by-value-determined : (κs : _) (a : _) (r q : _) (s t : _) → inner.by-value .post κs a r s → inner.by-value .post κs a q t → r ≡ q
+by-value-determined : Determines (inner.by-value .post)
 by-value-determined κs a r q s t h l = h ∙ sym l
 
-leave-determined : (κs : _) (a : _) (r q : _) (s t : _) → leave.Post κs a r s → leave.Post κs a q t → r ≡ q
+leave-determined : Determines leave.Post
 leave-determined κs a r q s t h l = h ∙ sym l
 
 abbrev pub Says : ℕ → Slot → Answer → Slot → Type 0

@@ -3,17 +3,17 @@
 use Prim.Native.Nat.{ℕ}
 use mathlib.Core.Path.{_≡_, refl}
 use mathlib.Core.Bool.{true, false}
-use lib.ListN.{set, getD}
+use lib.ListN.{getD}
 use Rattle.table.specs.Answers.{number}
 use Rattle.table.proofs.Computes.{apart}
 use Rattle.table.specs.declared.Answer.the-variants.{Done, NoGuard}
-use Rattle.read.specs.declared.Due.the-variants.{Nothing}
 use Rattle.read.specs.declared.Slot.{Slot}
-use Rattle.read.specs.Machine.{withUse, isOpen, openOn, noGuards, withReading, newSlot, shut}
+use Rattle.read.specs.Machine.{withUse, isOpen, withReading, shut}
 use Rattle.read.specs.Handles.{released}
 use Rattle.read.proofs.Computes.{rules}
 use Rattle.place.specs.declared.Released.{Released}
 use Rattle.place.specs.Release.{releaseRule}
+use Rattle.promises.proofs.Witnesses.{inside}
 use Rattle.promises.proofs.place.Promises.{Function, by-value, release, leave, has, Promise}
 
 -- each of the three says that the answer and the record are the rule's
@@ -21,10 +21,6 @@ says : (k : Function) (f : ℕ → Slot → Released) → Promise k f → (j : �
 says by-value f h j s = h j s
 says release f h j s = h j s
 says leave f h j s = h j s
-
--- a handle inside, with guard 0 alone
-abbrev inside : Slot
-inside = withReading 1 (set noGuards 0 (openOn false)) Nothing newSlot
 
 -- the last guard leaves the epoch
 abbrev leavesEpoch : ℕ → Slot → Released

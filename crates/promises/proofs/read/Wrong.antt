@@ -3,7 +3,7 @@
 use Prim.Native.Nat.{ℕ, _+_, _-_, _^_}
 use mathlib.Core.Path.{refl}
 use mathlib.Core.Bool.{Bool, true, false, not, _&&_, _||_}
-use mathlib.Core.List.{List, [], _∷_, _++_}
+use mathlib.Core.List.{List, [], _∷_}
 use lib.Dec.{eqb, ltb}
 use lib.ListN.{length, getD, set, replicate}
 use Rattle.table.specs.Answers.{number}
@@ -27,9 +27,10 @@ use Rattle.read.specs.declared.Made.{Made}
 use Rattle.read.specs.declared.Reply.{Reply}
 use Rattle.read.specs.Machine.{standing, holding, openOn, withUse, withReading, slotCount, guardCount, logWords, shut, noGuards, isOpen, standsRight, putGuard, same, firstGuard, anyOpen, allOpen, isDue, isLoad, noSlot, newSlot, isGone, underway, wholeControl, glanced, judged, fresh, row}
 use Rattle.read.specs.Admission.{handleNumber, entry}
-use Rattle.read.specs.Handles.{mistimed, smallest, handleSigns, bumped, withDue, loaded, entered, wentOn, released, copyOf}
+use Rattle.read.specs.Handles.{mistimed, smallest, handleSigns, bumped, withDue, loaded, entered, wentOn, released, copyOf, bit}
 use Rattle.read.specs.Calls.{slotAt, withSlot, refusal, Lent, lent, handleReply, firstFree, handleRule, createRule, viewRule, pairRule, startRule}
 use Rattle.table.proofs.Computes.{apart}
+use Rattle.promises.proofs.Witnesses.{copy, none, seven, noLog, wordAt, itself}
 use Rattle.promises.proofs.Contracts.{Words, slice}
 use Rattle.read.proofs.Computes.{rules}
 use Rattle.promises.proofs.read.Promises.{FreshPromise, SlotAtPromise, RowPromise, EntryPromise, FirstGuardPromise, IsOpenPromise}
@@ -44,41 +45,18 @@ use Rattle.read.proofs.Cases.{stateOf, withLock}
 -- ---- what the witnesses are made of
 
 -- what is read off a result
-abbrev bit : Bool → ℕ
-bit true = 1
-bit false = 0
-
-abbrev itself : ℕ → ℕ
-itself n = n
-
 abbrev verdict : Verdict → ℕ
 verdict Admitted = 0
 verdict (Refused a) = number a
 
-abbrev word : ℕ → List ℕ → ℕ
-word i w = getD w i 0
-
 abbrev opens : ℕ → Slot → ℕ
 opens j s = bit (isOpen (s .guards) j)
 
--- a lent copy that begins with these words
-abbrev copyWith : List ℕ → List ℕ
-copyWith ws = ws ++ replicate (words - length ws) 0
-
-abbrev none : Words
-none = slice (copyWith []) refl
-
--- key 7 has another count on each side
-abbrev left7 : Words
-left7 = slice (copyWith (1 ∷ 0 ∷ 7 ∷ 3 ∷ [])) refl
-
+-- key 7 has another count than in `seven`
 abbrev right7 : Words
-right7 = slice (copyWith (1 ∷ 0 ∷ 7 ∷ 4 ∷ [])) refl
+right7 = copy (1 ∷ 0 ∷ 7 ∷ 4 ∷ []) refl
 
--- an empty log, and a slice of no words
-abbrev noLog : Words
-noLog = slice (replicate logWords 0) refl
-
+-- a slice of no words
 abbrev noWords : Words
 noWords = slice [] refl
 
@@ -343,14 +321,14 @@ abbrev otherCopy : List Guard → ℕ → List ℕ → List ℕ → List ℕ
 otherCopy gs j l r = copyOf (not (standsRight gs j)) l r
 
 otherCopy-wrong : GuardedCopyPromise otherCopy → ⊥
-otherCopy-wrong h = apart (word 3) refl (h one 0 left7 right7 refl)
+otherCopy-wrong h = apart (wordAt 3) refl (h one 0 seven right7 refl)
 
 -- always the left copy
 abbrev leftCopy : List Guard → ℕ → List ℕ → List ℕ → List ℕ
 leftCopy gs j l r = l
 
 leftCopy-wrong : GuardedCopyPromise leftCopy → ⊥
-leftCopy-wrong h = apart (word 3) refl (h right 0 left7 right7 refl)
+leftCopy-wrong h = apart (wordAt 3) refl (h right 0 seven right7 refl)
 
 -- ---- verdicts
 
@@ -556,11 +534,11 @@ release-stops-wrong h = apart epochOf refl (h 1 0 none none noLog (machine (slot
 
 lookUp-other-wrong : LookUpPromise (λ i j key l r. handleRule i (LookUp j key) r l) → ⊥
 unfolding rules
-lookUp-other-wrong h = apart valueOf refl (h 1 0 7 left7 right7 noLog (machine (slotWith 1 one Nothing)) refl)
+lookUp-other-wrong h = apart valueOf refl (h 1 0 7 seven right7 noLog (machine (slotWith 1 one Nothing)) refl)
 
 lookUp-none-wrong : LookUpPromise (λ i j key. calling (idling (λ c. 0)) (LookUp j key) i) → ⊥
 unfolding rules
-lookUp-none-wrong h = apart valueOf refl (h 1 0 7 left7 right7 noLog (machine (slotWith 1 one Nothing)) refl)
+lookUp-none-wrong h = apart valueOf refl (h 1 0 7 seven right7 noLog (machine (slotWith 1 one Nothing)) refl)
 
 -- was dropped: never
 
@@ -620,12 +598,12 @@ createNone-wrong h = apart answerOf refl (h none none noLog fresh refl)
 -- the other copy is shown
 view-other-wrong : ViewPromise (λ i j l r. viewRule i j r l) → ⊥
 unfolding rules
-view-other-wrong h = apart (word 3) refl (h 1 0 left7 right7 noLog (machine (slotWith 1 one Nothing)) refl)
+view-other-wrong h = apart (wordAt 3) refl (h 1 0 seven right7 noLog (machine (slotWith 1 one Nothing)) refl)
 
 -- the empty table is shown always
 view-empty-wrong : ViewPromise (λ i j l r g st. 0 ∷ 0 ∷ []) → ⊥
 unfolding rules
-view-empty-wrong h = apart length refl (h 1 0 left7 right7 noLog (machine (slotWith 1 one Nothing)) refl)
+view-empty-wrong h = apart length refl (h 1 0 seven right7 noLog (machine (slotWith 1 one Nothing)) refl)
 
 -- a refused call shows the left copy
 abbrev showsRefused : ℕ → ℕ → List ℕ → List ℕ → List ℕ → State → List ℕ
@@ -633,17 +611,17 @@ showsRefused i j l r g st = let v = viewRule i j l r g st in elim (eqb (length v
 
 view-refused-wrong : ViewPromise showsRefused → ⊥
 unfolding rules
-view-refused-wrong h = apart length refl (h 1 0 left7 right7 noLog (machine newSlot) refl)
+view-refused-wrong h = apart length refl (h 1 0 seven right7 noLog (machine newSlot) refl)
 
 -- the pair is the other copy's
 pair-other-wrong : PairPromise (λ i j key l r. pairRule i j key r l) → ⊥
 unfolding rules
-pair-other-wrong h = apart (word 1) refl (h 1 0 7 left7 right7 noLog (machine (slotWith 1 one Nothing)) refl)
+pair-other-wrong h = apart (wordAt 1) refl (h 1 0 7 seven right7 noLog (machine (slotWith 1 one Nothing)) refl)
 
 -- no key is ever found
 pair-none-wrong : PairPromise (λ i j key l r g st. []) → ⊥
 unfolding rules
-pair-none-wrong h = apart length refl (h 1 0 7 left7 right7 noLog (machine (slotWith 1 one Nothing)) refl)
+pair-none-wrong h = apart length refl (h 1 0 7 seven right7 noLog (machine (slotWith 1 one Nothing)) refl)
 
 -- ---- start
 
@@ -653,7 +631,7 @@ zeroesAlways l r g = lent (startRule l r g .made) (zeros l) (zeros r) (zeros g)
 
 zeroesAlways-wrong : StartPromise zeroesAlways → ⊥
 unfolding rules
-zeroesAlways-wrong h = apart (λ q. word 2 (q .left)) refl (h left7 right7 noWords refl)
+zeroesAlways-wrong h = apart (λ q. wordAt 2 (q .left)) refl (h seven right7 noWords refl)
 
 -- nothing is zeroed
 abbrev zeroesNever : List ℕ → List ℕ → List ℕ → Lent Reply
@@ -661,4 +639,4 @@ zeroesNever l r g = lent (startRule l r g .made) l r g
 
 zeroesNever-wrong : StartPromise zeroesNever → ⊥
 unfolding rules
-zeroesNever-wrong h = apart (λ q. word 2 (q .left)) refl (h left7 right7 noLog refl)
+zeroesNever-wrong h = apart (λ q. wordAt 2 (q .left)) refl (h seven right7 noLog refl)

@@ -14,18 +14,19 @@ use Rattle.table.proofs.drop.Reads as drop
 use Rattle.table.proofs.clear.Reads as clear
 use Rattle.table.proofs.look_up.Reads as look-up
 use Rattle.table.proofs.used.Reads as used
+use Rattle.promises.proofs.Contracts.{Determines, DeterminesWords}
 
 -- two outcomes that are both what a rule says have the same answer and the same words
 same : {x y o : Out} → x ≡ o → y ≡ o → (x .answer ≡ y .answer) × (x .copy ≡ y .copy)
 same h l = (ap (λ (z : Out). z .answer) (h ∙ sym l), ap (λ (z : Out). z .copy) (h ∙ sym l))
 
-number-determined : (κs : _) (a : _) (r q : _) (s t : _) → number.Post κs a r s → number.Post κs a q t → r ≡ q
+number-determined : Determines number.Post
 number-determined κs a r q s t h l = h ∙ sym l
 
-fit-determined : (κs : _) (a : _) (r q : _) (s t : _) → fit.Post κs a r s → fit.Post κs a q t → r ≡ q
+fit-determined : Determines fit.Post
 fit-determined κs a r q s t h l = h ∙ sym l
 
-lawful-determined : (κs : _) (a : _) (r q : _) (s t : _) → lawful.Post κs a r s → lawful.Post κs a q t → r ≡ q
+lawful-determined : Determines lawful.Post
 lawful-determined κs a r q s t h l = h ∙ sym l
 
 zero-determined : (κs : _) (a : _) (r q : _) (s t : _) → zero.Post κs a r s → zero.Post κs a q t → now (s .0) ≡ now (t .0)
@@ -46,8 +47,8 @@ drop-determined κs a r q s t h l = same h l
 clear-determined : (κs : _) (a : _) (r q : _) (s t : _) → clear.Post κs a r s → clear.Post κs a q t → (r ≡ q) × (now (s .0) ≡ now (t .0))
 clear-determined κs a r q s t h l = same h l
 
-look-up-determined : (κs : _) (a : _) (r q : _) (s t : _) → look-up.Post κs a r s → look-up.Post κs a q t → now r ≡ now q
+look-up-determined : DeterminesWords look-up.Post
 look-up-determined κs a r q s t h l = h ∙ sym l
 
-used-determined : (κs : _) (a : _) (r q : _) (s t : _) → used.Post κs a r s → used.Post κs a q t → now r ≡ now q
+used-determined : DeterminesWords used.Post
 used-determined κs a r q s t h l = h ∙ sym l

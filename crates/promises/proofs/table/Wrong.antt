@@ -2,9 +2,9 @@
 -- values that the source's types have, where what the program does wrong is read off.
 use Prim.Native.Nat.{ℕ, zero, suc, _+_, _-_, _*_, _^_, _%_}
 use mathlib.Core.Path.{_≡_, refl, ap, _∙_}
-use mathlib.Core.Bool.{Bool, true, false, not, _&&_, _||_}
+use mathlib.Core.Bool.{Bool, true, false, not, _&&_}
 use mathlib.Core.List.{List, [], _∷_, _++_}
-use lib.ListN.{length, getD, take, drop, set, replicate}
+use lib.ListN.{length, take, drop, set, replicate}
 use lib.Dec.{eqb, leb, ltb}
 use native.Mathlib.Omega.{arith}
 use Rattle.table.specs.declared.Answer.{Answer}
@@ -15,26 +15,15 @@ use Rattle.table.specs.Copy.{pairs, words, entries, spill, keyAt, countAt, used
 use Rattle.table.proofs.Computes.{rules, apart}
 use Rattle.table.proofs.CopyWords.{getD-zeros}
 use Rattle.table.proofs.CopyFind.{added-cases}
-use Rattle.promises.proofs.Contracts.{below, Words, slice}
+use Rattle.read.specs.Handles.{bit}
+use Rattle.promises.proofs.Witnesses.{copyWith, copy, none, seven, wordAt, itself}
+use Rattle.promises.proofs.Contracts.{Words, slice}
 use Rattle.promises.proofs.table.Promises.{NumberPromise, LawfulPromise, FitPromise, LookPromise, UsedPromise, ZeroPromise}
 use Rattle.promises.proofs.table.Promises.{ClosePromise, ApplyPromise, AddPromise, DropPromise, ClearPromise}
 
 -- ---- what the witnesses are made of
 
--- a copy that begins with these words
-abbrev copyOf : List ℕ → List ℕ
-copyOf ws = ws ++ replicate (words - length ws) 0
-
-abbrev copy : (ws : List ℕ) → below 64 (copyOf ws) ≡ true → Words
-copy ws h = slice (copyOf ws) h
-
--- a copy with no pairs, with one, and with two that have the same key
-abbrev none : Words
-none = copy [] refl
-
-abbrev seven : Words
-seven = copy (1 ∷ 0 ∷ 7 ∷ 3 ∷ []) refl
-
+-- a copy with two pairs that have the same key
 abbrev twice : Words
 twice = copy (2 ∷ 0 ∷ 7 ∷ 3 ∷ 7 ∷ 4 ∷ []) refl
 
@@ -42,22 +31,12 @@ twice = copy (2 ∷ 0 ∷ 7 ∷ 3 ∷ 7 ∷ 4 ∷ []) refl
 abbrev two : Words
 two = slice (4 ∷ 5 ∷ []) refl
 
--- what is read off a result: a word, or one of the copy that a call leaves; its answer's number; a bit; a number itself
-abbrev wordAt : ℕ → List ℕ → ℕ
-wordAt i w = getD w i 0
-
+-- what is read off a result: a word of the copy that a call leaves, or its answer's number
 abbrev word : ℕ → Out → ℕ
 word i o = wordAt i (o .copy)
 
 abbrev answer : Out → ℕ
 answer o = number (o .answer)
-
-abbrev bit : Bool → ℕ
-bit true = 1
-bit false = 0
-
-abbrev itself : ℕ → ℕ
-itself n = n
 
 -- a call that is refused as the rule has it, with another effect
 abbrev calling : (List ℕ → List ℕ) → ℕ → ℕ → ℕ → List ℕ → Out
@@ -106,7 +85,7 @@ anyLength w = elim (leb (entries w) pairs) [ true ↦ Done | false ↦ Broken ]
 
 anyLength-wrong : FitPromise anyLength → ⊥
 unfolding rules
-anyLength-wrong h = apart number refl (h (slice (copyOf [] ++ (0 ∷ [])) refl) refl)
+anyLength-wrong h = apart number refl (h (slice (copyWith [] ++ (0 ∷ [])) refl) refl)
 
 -- every copy is broken
 abbrev noneFit : List ℕ → Answer

@@ -22,6 +22,7 @@ use Rattle.write.proofs.phases.at.Reads as at
 use Rattle.write.proofs.phases.polling.Reads as polling
 use Rattle.write.proofs.phases.last_polling.Reads as last-polling
 use Rattle.write.proofs.begins.step_verdict.Reads as step-verdict
+use Rattle.promises.proofs.Contracts.{Determines}
 
 -- two outcomes that are both what a rule says
 same :
@@ -52,16 +53,16 @@ run-determined :
     (r ≡ q) × (now (s .1 .0) ≡ now (t .1 .0)) × (now (s .1 .1 .0) ≡ now (t .1 .1 .0)) × (now (s .1 .1 .1 .0) ≡ now (t .1 .1 .1 .0))
 run-determined κs a r q s t h l = same h l
 
-publish-determined : (κs : _) (a : _) (r q : _) (s t : _) → publish.Post κs a r s → publish.Post κs a q t → r ≡ q
+publish-determined : Determines publish.Post
 publish-determined κs a r q s t h l = made-same h l
 
-try-publish-determined : (κs : _) (a : _) (r q : _) (s t : _) → try-publish.Post κs a r s → try-publish.Post κs a q t → r ≡ q
+try-publish-determined : Determines try-publish.Post
 try-publish-determined κs a r q s t h l = made-same h l
 
-flush-determined : (κs : _) (a : _) (r q : _) (s t : _) → flush.Post κs a r s → flush.Post κs a q t → r ≡ q
+flush-determined : Determines flush.Post
 flush-determined κs a r q s t h l = made-same h l
 
-take-determined : (κs : _) (a : _) (r q : _) (s t : _) → take.Post κs a r s → take.Post κs a q t → r ≡ q
+take-determined : Determines take.Post
 take-determined κs a r q s t h l = made-same h l
 
 append-on-determined :
@@ -74,26 +75,26 @@ advance-determined :
     (r ≡ q) × (now (s .1 .1 .1 .0) ≡ now (t .1 .1 .1 .0)) × (now (s .1 .1 .1 .1 .0) ≡ now (t .1 .1 .1 .1 .0)) × (now (s .1 .1 .1 .1 .1 .0) ≡ now (t .1 .1 .1 .1 .1 .0))
 advance-determined κs a r q s t h l = same h l
 
-open-on-determined : (κs : _) (a : _) (r q : _) (s t : _) → open-on.Post κs a r s → open-on.Post κs a q t → r ≡ q
+open-on-determined : Determines open-on.Post
 open-on-determined κs a r q s t h l = h ∙ sym l
 
-holds-determined : (κs : _) (a : _) (r q : _) (s t : _) → holds.Post κs a r s → holds.Post κs a q t → r ≡ q
+holds-determined : Determines holds.Post
 holds-determined κs a r q s t h l = h ∙ sym l
 
-place-determined : (κs : _) (a : _) (r q : _) (s t : _) → place.Post κs a r s → place.Post κs a q t → r ≡ q
+place-determined : Determines place.Post
 place-determined κs a r q s t h l = h ∙ sym l
 
-underway-determined : (κs : _) (a : _) (r q : _) (s t : _) → underway.Post κs a r s → underway.Post κs a q t → r ≡ q
+underway-determined : Determines underway.Post
 underway-determined κs a r q s t h l = h ∙ sym l
 
-at-determined : (κs : _) (a : _) (r q : _) (s t : _) → at.Post κs a r s → at.Post κs a q t → r ≡ q
+at-determined : Determines at.Post
 at-determined κs a r q s t h l = h ∙ sym l
 
-polling-determined : (κs : _) (a : _) (r q : _) (s t : _) → polling.Post κs a r s → polling.Post κs a q t → r ≡ q
+polling-determined : Determines polling.Post
 polling-determined κs a r q s t h l = h ∙ sym l
 
-last-polling-determined : (κs : _) (a : _) (r q : _) (s t : _) → last-polling.Post κs a r s → last-polling.Post κs a q t → r ≡ q
+last-polling-determined : Determines last-polling.Post
 last-polling-determined κs a r q s t h l = h ∙ sym l
 
-step-verdict-determined : (κs : _) (a : _) (r q : _) (s t : _) → step-verdict.Post κs a r s → step-verdict.Post κs a q t → r ≡ q
+step-verdict-determined : Determines step-verdict.Post
 step-verdict-determined κs a r q s t h l = h ∙ sym l

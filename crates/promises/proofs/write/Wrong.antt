@@ -5,12 +5,11 @@ use mathlib.Core.Path.{refl}
 use mathlib.Core.Bool.{Bool, true, false, not, _&&_, _||_}
 use mathlib.Core.List.{List, [], _∷_, _++_}
 use lib.Dec.{eqb, ltb, leb}
-use lib.ListN.{length, getD, set, replicate}
+use lib.ListN.{length, replicate}
 use Rattle.table.specs.Answers.{number}
-use Rattle.table.specs.Copy.{words, zeros, lawful}
+use Rattle.table.specs.Copy.{zeros, lawful}
 use Rattle.table.specs.declared.Answer.the-variants as answer
 use Rattle.read.specs.declared.Slot.{Slot}
-use Rattle.read.specs.declared.Due.the-variants.{Nothing}
 use Rattle.read.specs.declared.Phase.{Phase}
 use Rattle.read.specs.declared.Phase.the-variants.{Idle, Begin, Poll, Copy, Drain, Swap, Snap, Lock, LastPoll, Finish, Gone}
 use Rattle.read.specs.declared.Job.{Job}
@@ -20,7 +19,7 @@ use Rattle.read.specs.declared.Verdict.{Verdict}
 use Rattle.read.specs.declared.Verdict.the-variants.{Admitted, Refused}
 use Rattle.read.specs.declared.State.{State}
 use Rattle.read.specs.declared.Reply.{Reply}
-use Rattle.read.specs.Machine.{standing, holding, freshControl, openOn, withReading, slotCount, logRoom, logWords, noGuards, noSlot, newSlot, underway, locks, nulls, judged, fresh, row, place}
+use Rattle.read.specs.Machine.{standing, holding, freshControl, withReading, slotCount, logRoom, logWords, noGuards, noSlot, newSlot, underway, locks, nulls, judged, fresh, row, place}
 use Rattle.read.specs.Handles.{smallest, freed, copyOf, bit}
 use Rattle.read.specs.Calls.{Lent, lent, slotAt, refusal}
 use Rattle.write.specs.declared.Moved.{Moved}
@@ -33,6 +32,7 @@ use Rattle.write.specs.Runs.{snapAt, putBack, lift, stepOn, enough, runWhile}
 use Rattle.write.specs.Machine.{going, callRule}
 use Rattle.write.proofs.Cases.{withJob}
 use Rattle.table.proofs.Computes.{apart}
+use Rattle.promises.proofs.Witnesses.{none, seven, noLog, inside, wordAt}
 use Rattle.promises.proofs.Contracts.{Words, slice}
 use Rattle.write.proofs.Computes.{rules}
 use Rattle.promises.proofs.write.Promises.{Part, Whole, Beginning, HoldsPromise, PlacePromise, OpenOnPromise, AdvancePromise, AppendOnPromise}
@@ -46,21 +46,10 @@ use Rattle.read.proofs.Cases.{stateOf, withLock}
 abbrev fitting : Phase → Job → Bool → Bool → ℕ → ℕ → Control
 fitting p j first second n s = holding false (nulls p) first second n s (standing p j freshControl)
 
--- a reader inside, with an odd epoch
-abbrev inside : Slot
-inside = withReading 1 (set noGuards 0 (openOn false)) Nothing newSlot
-
 -- the writer's own slot first, then this one and free ones
 abbrev with1 : Control → Slot → ℕ → State
 with1 c s e =
     stateOf c (newSlot ∷ s ∷ replicate (slotCount - 2) noSlot) (0 ∷ e ∷ replicate (slotCount - 2) 0)
-
--- a copy with no pairs, and one that has key 7
-abbrev blank : Words
-blank = slice (replicate words 0) refl
-
-abbrev seven : Words
-seven = slice (1 ∷ 0 ∷ 7 ∷ 3 ∷ replicate (words - 4) 0) refl
 
 -- a log of ADDs of 1 to these keys
 abbrev adds : List ℕ → List ℕ
@@ -69,9 +58,6 @@ adds (k ∷ ks) = 1 ∷ k ∷ 1 ∷ adds ks
 
 abbrev logOf : List ℕ → List ℕ
 logOf ks = adds ks ++ replicate (logWords - length (adds ks)) 0
-
-abbrev blankLog : Words
-blankLog = slice (logOf []) refl
 
 abbrev log7 : Words
 log7 = slice (logOf (7 ∷ [])) refl
@@ -82,9 +68,6 @@ fullLog = slice (logOf (replicate logRoom 7)) refl
 -- what is read off a part, and off the whole
 abbrev movedTo : Lent Moved → ℕ
 movedTo o = row (o .made .control .phase)
-
-abbrev word0 : List ℕ → ℕ
-word0 w = getD w 0 0
 
 abbrev answered : Lent Reply → ℕ
 answered o = number (o .made .answer)
@@ -219,7 +202,7 @@ pollPasses = but 2 (λ c s e l r g. lent (moved (at (polling c (place (c .phase)
 
 pollPasses-wrong : AdvancePromise pollPasses → ⊥
 unfolding rules
-pollPasses-wrong h = apart (λ o. number (o .made .answer)) refl (h (fitting (Poll 1) Publish false false 0 0) inside 1 blank blank blankLog refl)
+pollPasses-wrong h = apart (λ o. number (o .made .answer)) refl (h (fitting (Poll 1) Publish false false 0 0) inside 1 none none noLog refl)
 
 -- a poll that is held, and moves on
 abbrev heldMovesOn : Part
@@ -231,7 +214,7 @@ heldMovesOn =
 
 heldMovesOn-wrong : AdvancePromise heldMovesOn → ⊥
 unfolding rules
-heldMovesOn-wrong h = apart (λ o. place (o .made .control .phase)) refl (h (fitting (Poll 1) Publish false false 0 0) inside 1 blank blank blankLog refl)
+heldMovesOn-wrong h = apart (λ o. place (o .made .control .phase)) refl (h (fitting (Poll 1) Publish false false 0 0) inside 1 none none noLog refl)
 
 -- a copying step after every publish: the copies are never said to be synchronised
 abbrev copiesAlways : Part
@@ -243,7 +226,7 @@ copiesAlways =
 
 copiesAlways-wrong : AdvancePromise copiesAlways → ⊥
 unfolding rules
-copiesAlways-wrong h = apart (λ o. bit (o .made .control .second)) refl (h (fitting Copy Publish false true 0 0) newSlot 0 blank blank blankLog refl)
+copiesAlways-wrong h = apart (λ o. bit (o .made .control .second)) refl (h (fitting Copy Publish false true 0 0) newSlot 0 none none noLog refl)
 
 -- a drain that leaves the swap index where it is
 abbrev keepsIndex : Part
@@ -257,7 +240,7 @@ keepsIndex =
 
 keepsIndex-wrong : AdvancePromise keepsIndex → ⊥
 unfolding rules
-keepsIndex-wrong h = apart (λ o. o .made .control .swapped) refl (h (fitting Drain Publish false false 1 1) newSlot 0 blank blank log7 refl)
+keepsIndex-wrong h = apart (λ o. o .made .control .swapped) refl (h (fitting Drain Publish false false 1 1) newSlot 0 none none log7 refl)
 
 -- a drain that leaves the operation in the log
 abbrev drainsNothing : Part
@@ -269,7 +252,7 @@ drainsNothing =
 
 drainsNothing-wrong : AdvancePromise drainsNothing → ⊥
 unfolding rules
-drainsNothing-wrong h = apart (λ o. word0 (o .log)) refl (h (fitting Drain Publish false false 1 1) newSlot 0 blank blank log7 refl)
+drainsNothing-wrong h = apart (λ o. wordAt 0 (o .log)) refl (h (fitting Drain Publish false false 1 1) newSlot 0 none none log7 refl)
 
 -- a snapshot of a free slot
 abbrev snapsFree : Part
@@ -277,7 +260,7 @@ snapsFree = but 7 (λ c s e l r g. let o = stepAt (c .phase) c s e l r g in lent
 
 snapsFree-wrong : AdvancePromise snapsFree → ⊥
 unfolding rules
-snapsFree-wrong h = apart (λ o. o .made .snapshot) refl (h (fitting (Snap 1) Publish false false 0 0) noSlot 1 blank blank blankLog refl)
+snapsFree-wrong h = apart (λ o. o .made .snapshot) refl (h (fitting (Snap 1) Publish false false 0 0) noSlot 1 none none noLog refl)
 
 -- a take that takes no snapshots, and polls by the last publish's
 abbrev oldSnapshots : Part
@@ -285,7 +268,7 @@ oldSnapshots = but 9 (λ c s e l r g. lent (moved (at (lastPolling 0) c) s e) l 
 
 oldSnapshots-wrong : AdvancePromise oldSnapshots → ⊥
 unfolding rules
-oldSnapshots-wrong h = apart movedTo refl (h (fitting Lock TakeFirst false false 0 0) newSlot 0 blank blank blankLog refl)
+oldSnapshots-wrong h = apart movedTo refl (h (fitting Lock TakeFirst false false 0 0) newSlot 0 none none noLog refl)
 
 -- a take that leaves the other copy as it is
 abbrev leavesCopy : Part
@@ -293,7 +276,7 @@ leavesCopy = but 12 (λ c s e l r g. lent (stepAt Finish c s e l r g .made) l r 
 
 leavesCopy-wrong : AdvancePromise leavesCopy → ⊥
 unfolding rules
-leavesCopy-wrong h = apart (λ o. word0 (o .right)) refl (h (fitting Finish TakeFirst false false 0 0) newSlot 0 seven seven blankLog refl)
+leavesCopy-wrong h = apart (λ o. wordAt 0 (o .right)) refl (h (fitting Finish TakeFirst false false 0 0) newSlot 0 seven seven noLog refl)
 
 -- a machine that answers a step, and changes nothing
 abbrev standsStill : Part
@@ -303,7 +286,7 @@ standsStill c s e l r g =
 
 standsStill-wrong : AdvancePromise standsStill → ⊥
 unfolding rules
-standsStill-wrong h = apart movedTo refl (h (fitting Begin TakeFirst true true 0 0) newSlot 0 blank blank blankLog refl)
+standsStill-wrong h = apart movedTo refl (h (fitting Begin TakeFirst true true 0 0) newSlot 0 none none noLog refl)
 
 -- ---- append, on slot 0
 
@@ -323,7 +306,7 @@ epochStays =
 
 epochStays-wrong : AppendOnPromise epochStays → ⊥
 unfolding rules
-epochStays-wrong h = apart (λ o. o .made .slot .epoch) refl (h 1 7 3 (fresh .control) newSlot 0 blank blank blankLog refl)
+epochStays-wrong h = apart (λ o. o .made .slot .epoch) refl (h 1 7 3 (fresh .control) newSlot 0 none none noLog refl)
 
 -- into the log while `first` too
 abbrev logsFirst : ℕ → ℕ → ℕ → Part
@@ -331,7 +314,7 @@ logsFirst = appendBy (appended false)
 
 logsFirst-wrong : AppendOnPromise logsFirst → ⊥
 unfolding rules
-logsFirst-wrong h = apart (λ o. word0 (o .log)) refl (h 1 7 3 (fresh .control) newSlot 0 blank blank blankLog refl)
+logsFirst-wrong h = apart (λ o. wordAt 0 (o .log)) refl (h 1 7 3 (fresh .control) newSlot 0 none none noLog refl)
 
 -- to the copy that is read
 abbrev toRead : ℕ → ℕ → ℕ → Part
@@ -347,7 +330,7 @@ toRead =
 
 toRead-wrong : AppendOnPromise toRead → ⊥
 unfolding rules
-toRead-wrong h = apart (λ o. word0 (o .left)) refl (h 1 7 3 (fresh .control) newSlot 0 blank blank blankLog refl)
+toRead-wrong h = apart (λ o. wordAt 0 (o .left)) refl (h 1 7 3 (fresh .control) newSlot 0 none none noLog refl)
 
 -- ---- publish, try, flush and take, on slot 0
 
@@ -390,7 +373,7 @@ later = with1 (fitting Idle Publish false true 0 0) noSlot 0
 -- append: the epoch stays
 append-epochStays-wrong : AppendPromise (appends epochStays) → ⊥
 unfolding rules
-append-epochStays-wrong h = apart epoch0 refl (h 1 7 3 fresh blank blank blankLog refl)
+append-epochStays-wrong h = apart epoch0 refl (h 1 7 3 fresh none none noLog refl)
 
 -- append: a full log takes one more, which is counted and lost
 abbrev oneMore : ℕ → ℕ → ℕ → Part
@@ -406,7 +389,7 @@ oneMore kind key amount c s e l r g =
 
 append-oneMore-wrong : AppendPromise (appends oneMore) → ⊥
 unfolding rules
-append-oneMore-wrong h = apart answered refl (h 1 7 3 (with1 (fitting Idle Publish false false logRoom 0) noSlot 0) blank blank fullLog refl)
+append-oneMore-wrong h = apart answered refl (h 1 7 3 (with1 (fitting Idle Publish false false logRoom 0) noSlot 0) none none fullLog refl)
 
 -- publish: the swap at its beginning
 abbrev swapsAtOnce : Beginning
@@ -414,7 +397,7 @@ swapsAtOnce = opens opening.Publish (λ c s e. value 0 (swappedOver (begun c)) s
 
 swapsAtOnce-wrong : PublishPromise swapsAtOnce → ⊥
 unfolding rules
-swapsAtOnce-wrong h = apart (λ o. bit (o .made .state .control .right)) refl (h later blank blank blankLog refl)
+swapsAtOnce-wrong h = apart (λ o. bit (o .made .state .control .right)) refl (h later none none noLog refl)
 
 -- publish: the first one polls
 abbrev firstPolls : Beginning
@@ -422,7 +405,7 @@ firstPolls = opens opening.Publish (λ c s e. value 0 (at (polling c 0) (withJob
 
 firstPolls-wrong : PublishPromise firstPolls → ⊥
 unfolding rules
-firstPolls-wrong h = apart phased refl (h fresh blank blank blankLog refl)
+firstPolls-wrong h = apart phased refl (h fresh none none noLog refl)
 
 -- try: as publish, with no poll while `first`
 abbrev tryAsPublish : Beginning
@@ -430,7 +413,7 @@ tryAsPublish = opens opening.Try (λ c s e. value 0 (at (beginning c) (withJob T
 
 tryAsPublish-wrong : TryPromise tryAsPublish → ⊥
 unfolding rules
-tryAsPublish-wrong h = apart phased refl (h fresh blank blank blankLog refl)
+tryAsPublish-wrong h = apart phased refl (h fresh none none noLog refl)
 
 -- try: one that waits
 abbrev tryWaits : Beginning
@@ -442,7 +425,7 @@ heldAnswer o = number (stopped (o .made .state .control .job) (o .made .state .c
 
 tryWaits-wrong : TryPromise tryWaits → ⊥
 unfolding rules
-tryWaits-wrong h = apart heldAnswer refl (h later blank blank blankLog refl)
+tryWaits-wrong h = apart heldAnswer refl (h later none none noLog refl)
 
 -- flush: it publishes while `first` too
 abbrev flushesFirst : Beginning
@@ -452,7 +435,7 @@ flushesFirst =
 
 flushesFirst-wrong : FlushPromise flushesFirst → ⊥
 unfolding rules
-flushesFirst-wrong h = apart valued refl (h fresh blank blank blankLog refl)
+flushesFirst-wrong h = apart valued refl (h fresh none none noLog refl)
 
 -- flush: it publishes what readers see already
 abbrev flushesSeen : Beginning
@@ -460,7 +443,7 @@ flushesSeen = opens opening.Flush (λ c s e. elim (ltb 0 (c .length)) [ true ↦
 
 flushesSeen-wrong : FlushPromise flushesSeen → ⊥
 unfolding rules
-flushesSeen-wrong h = apart valued refl (h (with1 (fitting Idle Publish false true 1 1) noSlot 0) blank blank log7 refl)
+flushesSeen-wrong h = apart valued refl (h (with1 (fitting Idle Publish false true 1 1) noSlot 0) none none log7 refl)
 
 -- take: the lock at its beginning
 abbrev locksAtOnce : Beginning
@@ -475,7 +458,7 @@ locksAtOnce =
 
 locksAtOnce-wrong : TakePromise locksAtOnce → ⊥
 unfolding rules
-locksAtOnce-wrong h = apart (λ o. bit (o .made .state .control .lock)) refl (h fresh blank blank blankLog refl)
+locksAtOnce-wrong h = apart (λ o. bit (o .made .state .control .lock)) refl (h fresh none none noLog refl)
 
 -- take: a publish where the first is made and the log is empty
 abbrev publishesAll : Beginning
@@ -483,7 +466,7 @@ publishesAll = opens opening.Take (λ c s e. value 0 (at Begin (withJob TakeFirs
 
 publishesAll-wrong : TakePromise publishesAll → ⊥
 unfolding rules
-publishesAll-wrong h = apart phased refl (h later blank blank blankLog refl)
+publishesAll-wrong h = apart phased refl (h later none none noLog refl)
 
 -- ---- step and run
 
@@ -496,20 +479,20 @@ heldAt1 = with1 (fitting (Poll 1) Publish false false 0 0) inside 1
 
 step-heldMovesOn-wrong : StepPromise (judging (going 12 (stepBy heldMovesOn))) → ⊥
 unfolding rules
-step-heldMovesOn-wrong h = apart (λ o. place (o .made .state .control .phase)) refl (h heldAt1 blank blank blankLog refl)
+step-heldMovesOn-wrong h = apart (λ o. place (o .made .state .control .phase)) refl (h heldAt1 none none noLog refl)
 
 step-pollPasses-wrong : StepPromise (judging (going 12 (stepBy pollPasses))) → ⊥
 unfolding rules
-step-pollPasses-wrong h = apart answered refl (h heldAt1 blank blank blankLog refl)
+step-pollPasses-wrong h = apart answered refl (h heldAt1 none none noLog refl)
 
 step-snapsFree-wrong : StepPromise (judging (going 12 (stepBy snapsFree))) → ⊥
 unfolding rules
-step-snapsFree-wrong h = apart snapped1 refl (h (with1 (fitting (Snap 1) Publish false false 0 0) noSlot 1) blank blank blankLog refl)
+step-snapsFree-wrong h = apart snapped1 refl (h (with1 (fitting (Snap 1) Publish false false 0 0) noSlot 1) none none noLog refl)
 
 -- a step before which neither the state nor the lent words are judged
 step-unjudged-wrong : StepPromise (going 12 stepOn) → ⊥
 unfolding rules
-step-unjudged-wrong h = apart answered refl (h (with1 (fitting Swap Publish false false 0 0) noSlot 0) blankLog blank blankLog refl)
+step-unjudged-wrong h = apart answered refl (h (with1 (fitting Swap Publish false false 0 0) noSlot 0) noLog none noLog refl)
 
 -- a run that says another value where it is held, of the steps that were made
 abbrev heldSays : (ℕ → ℕ) → Whole
@@ -524,19 +507,19 @@ heldSays f st l r g =
 -- the step that is held is counted
 run-countsHeld-wrong : RunPromise (heldSays (λ n. n + 1)) → ⊥
 unfolding rules
-run-countsHeld-wrong h = apart valued refl (h heldAt1 blank blank blankLog refl)
+run-countsHeld-wrong h = apart valued refl (h heldAt1 none none noLog refl)
 
 -- a number that has nothing to do with them
 run-inventsValue-wrong : RunPromise (heldSays (λ n. 99)) → ⊥
 unfolding rules
-run-inventsValue-wrong h = apart valued refl (h heldAt1 blank blank blankLog refl)
+run-inventsValue-wrong h = apart valued refl (h heldAt1 none none noLog refl)
 
 -- a run that makes one step
 run-oneStep-wrong : RunPromise (judging (going 13 (runWhile stepOn 1 0))) → ⊥
 unfolding rules
-run-oneStep-wrong h = apart phased refl (h (with1 (fitting (Snap (slotCount - 2)) Publish false false 0 0) noSlot 0) blank blank blankLog refl)
+run-oneStep-wrong h = apart phased refl (h (with1 (fitting (Snap (slotCount - 2)) Publish false false 0 0) noSlot 0) none none noLog refl)
 
 -- a run whose take polls by the last publish's snapshots: a reader that entered since is passed
 run-oldSnapshots-wrong : RunPromise (judging (going 13 (runWhile (stepBy oldSnapshots) enough 0))) → ⊥
 unfolding rules
-run-oldSnapshots-wrong h = apart answered refl (h (with1 (fitting Lock TakeFirst false false 0 0) inside 0) blank blank blankLog refl)
+run-oldSnapshots-wrong h = apart answered refl (h (with1 (fitting Lock TakeFirst false false 0 0) inside 0) none none noLog refl)

@@ -2,8 +2,8 @@
 use mathlib.Core.Path.{_≡_, sym, _∙_}
 use borrow.Author.Needs.{needs}
 use lib.ListN.{length, length-map, List·getD-eq-default}
+use Rattle.table.proofs.Lists.{getD-within}
 use Rattle.read.specs.Machine.{slotTotal, noSlot}
-use Rattle.read.proofs.Cases.{getD-within}
 use Rattle.read.proofs.slot_at.Statement.{statement}
 use Rattle.read.proofs.slot_at.Tie as tie
 

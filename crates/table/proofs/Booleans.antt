@@ -1,26 +1,24 @@
--- Small facts of booleans.
+-- What a test that is made of tests says of each, and each of it. Equations between tests are in `mathlib.Core.Bool`.
 use mathlib.Core.Path.{_≡_, refl, sym, ap, _∙_}
 use mathlib.Core.Bool.{Bool, true, false, not, _&&_, _||_, true≢false}
-pub use Rattle.read.proofs.Tests.{and-false}
-pub use Rattle.write.proofs.Control.{both}
 
 pub clash : {C : Type 0} {b : Bool} → b ≡ true → b ≡ false → C
 clash p q = absurd (true≢false (sym p ∙ q))
 
-pub or-false : (a b : Bool) → (a || b) ≡ false → (a ≡ false) × (b ≡ false)
-or-false true b e = clash refl e
-or-false false b e = (refl, e)
+pub not-self : {C : Type 0} (b : Bool) → b ≡ not b → C
+not-self true e = clash refl e
+not-self false e = clash e refl
 
-pub or-nil : (b : Bool) → (b || false) ≡ b
-or-nil true = refl
-or-nil false = refl
+pub both : (a b : Bool) → (a && b) ≡ true → (a ≡ true) × (b ≡ true)
+both true b e = (refl, e)
+both false b e = clash e refl
+
+pub neither : (a b : Bool) → (a || b) ≡ false → (a ≡ false) × (b ≡ false)
+neither true b e = clash refl e
+neither false b e = (refl, e)
 
 pub or-first : {a : Bool} (b : Bool) → a ≡ true → (a || b) ≡ true
 or-first b e = ap (λ (x : Bool). x || b) e
-
-pub or-true : (b : Bool) → (b || true) ≡ true
-or-true true = refl
-or-true false = refl
 
 pub lacks-none : (a b d : Bool) → (a && (not b && d)) ≡ false → a ≡ true → b ≡ false → d ≡ false
 lacks-none a b d e p q = sym (λ i. p i && (not (q i) && d)) ∙ e
