@@ -99,7 +99,7 @@ fn read_named(buf: &mut [u8; SCHEDULE], name: &[u8]) -> usize {
     n
 }
 
-// Reads FILE: how many bytes it has, or as many as the buffer where it is not to be played, which has then been said.
+// As the crate's `read`, which adds the status.
 pub(crate) fn read(buf: &mut [u8; SCHEDULE]) -> usize {
     if !is_word(b"show") {
         if !is_word(b"play") {
