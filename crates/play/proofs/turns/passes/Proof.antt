@@ -2,9 +2,7 @@
 use borrow.Author.Tests.{lt-ltb, le-ltb}
 use Rattle.read.specs.Machine.{slotTotal}
 use Rattle.play.specs.Turns.{passes}
-use native.Mathlib.Omega.{arith}
 use borrow.Author.Needs.{needs}
-use Rattle.table.proofs.Needs.{all5}
 use Rattle.play.proofs.turns.passes.Statement.{statement}
 use Rattle.play.proofs.turns.passes.Tie as tie
 
@@ -23,4 +21,18 @@ returns-2 c =
 
 pub passes-spec : {M : Type 1} → statement M
 passes-spec =
-    tie.close (all5 (all5 (tie.spec enum-told) (omega arith) returns returns-2) (omega arith))
+    tie.close
+    (tie.spec
+    enum-told
+    (λ c. search needs)
+    (λ c. search needs)
+    (λ c. search needs)
+    (λ c. search needs)
+    (λ c. search needs)
+    returns
+    returns-2
+    (λ c. search needs)
+    (λ c. search needs)
+    (λ c. search needs)
+    (λ c. search needs)
+    (λ c. search needs))
