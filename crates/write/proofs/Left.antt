@@ -1,9 +1,8 @@
 -- The count: how many steps are left of a call. A step that is made lowers it by one, and it is 0 exactly where no call is under way.
 use Prim.Native.Nat.{ℕ, zero, suc, _+_, _-_, _*_, _^_, _≤_, _<_}
 use mathlib.Core.Path.{_≡_, refl, sym, ap, _∙_}
-use mathlib.Core.Bool.{Bool, true, false, not, _&&_, true≢false, and-false}
+use mathlib.Core.Bool.{Bool, true, false, not, _&&_, true≢false}
 use mathlib.Core.List.{List}
-use mathlib.Core.Logic.{_↔_}
 use native.Mathlib.Omega.{arith}
 use native.Mathlib.Nat.{sub-zero}
 use Rattle.table.specs.Answers.{number}
@@ -141,92 +140,9 @@ module _ (c : Control) (s : Slot) (e : ℕ) where
     step-answer Finish = refl
     step-answer Gone = refl
 
--- a step that is no poll is made, and so is a poll that is not held
+-- a step that is no poll is made
 pub made-unless-polls : (p : Phase) (j : Job) (b : Bool) → underway p ≡ true → polls p ≡ false → outcome p j b ≡ answer.Done
 made-unless-polls p j b u q = λ i. answered (q i && b) (u i) p j
-
-pub made-unless-held : (p : Phase) (j : Job) → underway p ≡ true → outcome p j false ≡ answer.Done
-made-unless-held p j u = λ i. answered (and-false (polls p) i) (u i) p j
-
--- the polls that wait where they are held, and those that decline
-abbrev pub waits : Phase → Job → Bool
-waits Idle j = false
-waits Begin j = false
-waits (Poll k) Publish = true
-waits (Poll k) Try = false
-waits (Poll k) TakeFirst = true
-waits (Poll k) TakeSecond = true
-waits Copy j = false
-waits Drain j = false
-waits (Keep k) j = false
-waits Swap j = false
-waits (Snap k) j = false
-waits Null j = false
-waits Lock j = false
-waits (LastSnap k) j = false
-waits (LastPoll k) j = true
-waits Finish j = false
-waits Gone j = false
-
-abbrev pub declines : Phase → Job → Bool
-declines p j = polls p && not (waits p j)
-
--- two that are unlike, and a test that is not met
-apart : {a b : Answer} → (number a ≡ number b → ⊥) → (a ≡ b) ↔ (false ≡ true)
-apart f = (λ e. absurd (f (ap number e)), λ e. absurd (true≢false (sym e)))
-
-alike : {a : Answer} → (a ≡ a) ↔ (true ≡ true)
-alike = (λ e. refl, λ e. refl)
-
--- held: exactly a poll that is held, of a call that waits
-pub held-exactly : (p : Phase) (j : Job) (b : Bool) → (outcome p j b ≡ answer.Held) ↔ ((waits p j && b) ≡ true)
-held-exactly Idle j b = apart (omega arith)
-held-exactly Begin j b = apart (omega arith)
-held-exactly (Poll k) Publish true = alike
-held-exactly (Poll k) Publish false = apart (omega arith)
-held-exactly (Poll k) Try true = apart (omega arith)
-held-exactly (Poll k) Try false = apart (omega arith)
-held-exactly (Poll k) TakeFirst true = alike
-held-exactly (Poll k) TakeFirst false = apart (omega arith)
-held-exactly (Poll k) TakeSecond true = alike
-held-exactly (Poll k) TakeSecond false = apart (omega arith)
-held-exactly Copy j b = apart (omega arith)
-held-exactly Drain j b = apart (omega arith)
-held-exactly (Keep k) j b = apart (omega arith)
-held-exactly Swap j b = apart (omega arith)
-held-exactly (Snap k) j b = apart (omega arith)
-held-exactly Null j b = apart (omega arith)
-held-exactly Lock j b = apart (omega arith)
-held-exactly (LastSnap k) j b = apart (omega arith)
-held-exactly (LastPoll k) j true = alike
-held-exactly (LastPoll k) j false = apart (omega arith)
-held-exactly Finish j b = apart (omega arith)
-held-exactly Gone j b = apart (omega arith)
-
--- declined: exactly a try's poll that is held
-pub declined-exactly : (p : Phase) (j : Job) (b : Bool) → (outcome p j b ≡ answer.Declined) ↔ ((declines p j && b) ≡ true)
-declined-exactly Idle j b = apart (omega arith)
-declined-exactly Begin j b = apart (omega arith)
-declined-exactly (Poll k) Publish true = apart (omega arith)
-declined-exactly (Poll k) Publish false = apart (omega arith)
-declined-exactly (Poll k) Try true = alike
-declined-exactly (Poll k) Try false = apart (omega arith)
-declined-exactly (Poll k) TakeFirst true = apart (omega arith)
-declined-exactly (Poll k) TakeFirst false = apart (omega arith)
-declined-exactly (Poll k) TakeSecond true = apart (omega arith)
-declined-exactly (Poll k) TakeSecond false = apart (omega arith)
-declined-exactly Copy j b = apart (omega arith)
-declined-exactly Drain j b = apart (omega arith)
-declined-exactly (Keep k) j b = apart (omega arith)
-declined-exactly Swap j b = apart (omega arith)
-declined-exactly (Snap k) j b = apart (omega arith)
-declined-exactly Null j b = apart (omega arith)
-declined-exactly Lock j b = apart (omega arith)
-declined-exactly (LastSnap k) j b = apart (omega arith)
-declined-exactly (LastPoll k) j true = apart (omega arith)
-declined-exactly (LastPoll k) j false = apart (omega arith)
-declined-exactly Finish j b = apart (omega arith)
-declined-exactly Gone j b = apart (omega arith)
 
 -- ---- a poll
 
