@@ -1,9 +1,8 @@
 -- A call on the whole machine: judged, and then what stands below the judgement.
 use Prim.Native.Nat.{ℕ}
-use mathlib.Core.Path.{_≡_, refl, sym, ap, _∙_}
+use mathlib.Core.Path.{_≡_, sym, ap, _∙_}
 use mathlib.Core.Bool.{Bool, true, false}
 use mathlib.Core.List.{List}
-use native.Mathlib.Omega.{arith}
 use Rattle.table.specs.declared.Answer.{Answer}
 use Rattle.table.specs.declared.Answer.the-variants as answer
 use Rattle.read.specs.declared.Slot.{Slot}
@@ -26,20 +25,6 @@ use Rattle.write.proofs.Control.{whole-control}
 use Rattle.write.proofs.Judged.{judged-good}
 
 -- ---- what a state that is not refused has
-
-refused-not : {a : Answer} {C : Type 0} → Refused a ≡ Admitted → C
-refused-not e = let z : _≡_ {A = ℕ} 0 1 = cc in absurd (omega arith)
-
--- a test that admits was met
-met : (b : Bool) (a : Answer) → elim b as (λ _. Verdict) [ true ↦ Admitted | false ↦ Refused a ] ≡ Admitted → b ≡ true
-met true a e = refl
-met false a e = refused-not e
-
-sized-met : (s b : Bool) →
-    elim s as (λ _. Verdict) [ true ↦ elim b as (λ _. Verdict) [ true ↦ Admitted | false ↦ Refused answer.Broken ] | false ↦ Refused answer.Length ]
-    ≡ Admitted → b ≡ true
-sized-met true b e = met b answer.Broken e
-sized-met false b e = refused-not e
 
 module _ (c : Control) (l r g : List ℕ) where
   pub judged-whole-control : judged c l r g ≡ Admitted → wholeControl c ≡ true

@@ -40,11 +40,12 @@ use Rattle.play.specs.declared.turns.Far.{Far}
 use Rattle.play.specs.Player.{machine}
 use Rattle.play.specs.Turns.{halt, haltOf, far, facing, wentOn}
 use Rattle.play.proofs.Run.{runFrom, run-starts, run-over, run-unrolls}
-use Rattle.play.proofs.Turned.{read-slot, unput}
+use Rattle.play.proofs.Turned.{read-slot}
 use Rattle.read.proofs.Cases.{stateOf}
 use Rattle.read.proofs.Verdicts.{given}
 use Rattle.read.proofs.Phases.{idle-cases, underway-stays}
 use Rattle.write.proofs.Count.{left}
+use Rattle.write.proofs.Refusals.{lifted-same}
 
 -- ---- what halts a step
 
@@ -214,7 +215,7 @@ module _ (n : ℕ) (c : Control) (ss : List Slot) (es l r g : List ℕ) (h : Sou
   step-halted : (number halts ≡ 0 → ⊥) → stepOn st l r g ≡ lent (refusal halts st) l r g
   unfolding stepOn
   step-halted z =
-      ap (lift (place (c .phase)) st) (halted c (hereSlot c ss) (hereSnap c es) l r g (c .phase) z) ∙ unput st l r g (place (c .phase)) halts
+      ap (lift (place (c .phase)) st) (halted c (hereSlot c ss) (hereSnap c es) l r g (c .phase) z) ∙ lifted-same st l r g (place (c .phase)) halts
 
   -- what a run makes of a step that is refused
   run-halted :

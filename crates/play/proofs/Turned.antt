@@ -146,9 +146,6 @@ module _ (st : State) where
     unslot i a =
         λ j. lent (refusal a (stateOf (st .control) (set-getD (st .slots) i noSlot j) (st .snapshots))) l r g
 
-    pub unput : (i : ℕ) (a : Answer) → lift i st (lent (refused a (st .control) (slotAt st i) (snapAt st i)) l r g) ≡ lent (refusal a st) l r g
-    unput i a = kept i a 0 (st .control) (slotAt st i) l r g ∙ unslot i a
-
     -- ---- append and the beginnings
 
     abbrev c : Control

@@ -1,7 +1,7 @@
 -- The rules by cases: where the writer goes on, and what its calls do, with what was learnt on the way.
 use Prim.Native.Nat.{ℕ, zero, suc, _+_, _≤_, _<_}
 use mathlib.Core.Path.{_≡_, refl}
-use mathlib.Core.Bool.{Bool, true, false, not, _&&_, true≢false}
+use mathlib.Core.Bool.{Bool, true, false, not, _&&_}
 use mathlib.Core.List.{List}
 use native.Mathlib.Omega.{arith}
 use lib.Dec.{leb}
@@ -10,6 +10,7 @@ use Rattle.table.specs.Copy.{lawful}
 use Rattle.table.specs.declared.Answer.{Answer}
 use Rattle.table.specs.Answers.{number}
 use Rattle.table.proofs.Split.{by, below}
+use Rattle.table.proofs.Booleans.{clash}
 use Rattle.read.specs.declared.Phase.{Phase}
 use Rattle.read.specs.declared.Phase.the-variants.{Idle, Begin, Poll, Copy, Drain, Keep, Swap, Snap, Null, LastSnap, LastPoll, Finish}
 use Rattle.read.specs.declared.Job.{Job}
@@ -32,6 +33,11 @@ use Rattle.write.proofs.Verdicts.{judging, append-idle, open-idle}
 -- another job; the phase stays, with its lock
 abbrev pub withJob : Job → Control → Control
 withJob j c = standing (c .phase) j c
+
+-- the log has room for one more, where `first` is over
+pub roomy : (n : ℕ) (first : Bool) → first ≡ false → (not first && leb logRoom n) ≡ false → n < logRoom
+roomy n true q h = clash refl q
+roomy n false q h = leb-false logRoom n h
 
 -- ---- the phases
 
@@ -83,15 +89,11 @@ module _ (P : Lent Moved → Type 0) (kind key amount : ℕ) (c : Control) (s : 
     P (lent (madeAtOnce (withLog (c .length + 1) (c .swapped) c) s e) l r (logged (c .length) kind key amount g)))
     (refusal : (a : Answer) → Refusal a → P (lent (refused a c s e) l r g))
   where
-    roomy : (f : Bool) → f ≡ false → (not f && leb logRoom (c .length)) ≡ false → c .length < logRoom
-    roomy true q h = absurd (true≢false q)
-    roomy false q h = leb-false logRoom (c .length) h
-
     appended-cases :
         (not (c .first) && leb logRoom (c .length)) ≡ false → Appends kind key amount c → P (appended (c .first) kind key amount c s e l r g)
     appended-cases full h =
         by P (c .first) (λ q. first q h)
-        (λ q. below P (c .length) logRoom (λ u. later q u h) (λ u. absurd (let v = roomy (c .first) q full in omega arith)))
+        (λ q. below P (c .length) logRoom (λ u. later q u h) (λ u. absurd (let v = roomy (c .length) (c .first) q full in omega arith)))
 
     pub append-cases : P (appendOn kind key amount c s e l r g)
     unfolding appendOn

@@ -1,7 +1,7 @@
 -- The count: how many steps are left of a call. A step that is made lowers it by one, and it is 0 exactly where no call is under way.
 use Prim.Native.Nat.{ℕ, zero, suc, _+_, _-_, _*_, _^_, _≤_, _<_}
 use mathlib.Core.Path.{_≡_, refl, sym, ap, _∙_}
-use mathlib.Core.Bool.{Bool, true, false, not, _&&_, true≢false, and-false}
+use mathlib.Core.Bool.{Bool, true, false, not, _&&_, true≢false}
 use mathlib.Core.List.{List}
 use native.Mathlib.Omega.{arith}
 use native.Mathlib.Nat.{sub-zero}
@@ -153,12 +153,9 @@ module _ (c : Control) (s : Slot) (e : ℕ) where
     pub step-slot : (p : Phase) → stepAt p c s e l r g .made .slot ≡ usedAs s (stepAt p c s e l r g .made .slot)
     step-slot p = step-told p .1
 
--- a step that is no poll is made, and so is a poll that is not held
+-- a step that is no poll is made
 pub made-unless-polls : (p : Phase) (j : Job) (b : Bool) → underway p ≡ true → polls p ≡ false → outcome p j b ≡ answer.Done
 made-unless-polls p j b u q = λ i. answered (q i && b) (u i) p j
-
-pub made-unless-held : (p : Phase) (j : Job) → underway p ≡ true → outcome p j false ≡ answer.Done
-made-unless-held p j u = λ i. answered (and-false (polls p) i) (u i) p j
 
 -- ---- a poll
 

@@ -1,15 +1,15 @@
 -- The lent words: each rule under the tests that lead to it, as the code's functions meet it.
-use Prim.Native.Nat.{ℕ, suc, _+_, _-_, _*_, _≤_, _<_}
+use Prim.Native.Nat.{ℕ, _+_, _-_, _*_, _≤_, _<_}
 use mathlib.Core.Path.{_≡_, ap, _∙_}
 use mathlib.Core.Bool.{Bool, true, false}
-use mathlib.Core.List.{List, _++_}
+use mathlib.Core.List.{List}
 use native.Mathlib.Omega.{arith}
-use native.Mathlib.Numerals.{add-one}
 use borrow.Author.Tests.{lt-ltb, le-ltb, le-leb, lt-leb}
-use lib.ListN.{length, getD, take, drop, set, drop-of-length-le}
-use lib.Seq.{take-suc, drop-cons, take-all, length-take-le, set-at, append-snoc}
+use lib.ListN.{length, getD, set, drop-of-length-le}
+use lib.Seq.{take-all}
 use Rattle.read.specs.Machine.{logRoom}
 use Rattle.table.specs.Copy.{closeRule, applyRule, Out}
+use Rattle.table.proofs.Moves.{over as upTo}
 use Rattle.write.specs.Steps.{ofLeft, ofRight, logApplied, over, unlogged}
 use Rattle.write.specs.Begins.{logged}
 
@@ -49,15 +49,6 @@ pub logged-put :
 logged-put n kind key amount g x y z = z ∙ rw (y, x)
 
 -- ---- one copy over another
-
--- the first i words are those of the one, the rest those of the other
-abbrev pub upTo : ℕ → List ℕ → List ℕ → List ℕ
-upTo i from to = take i from ++ drop i to
-
-pub up-to-more : (i : ℕ) (from to : List ℕ) → i < length from → i < length to → set (upTo i from to) i (getD from i 0) ≡ upTo (i + 1) from to
-up-to-more i from to h k =
-    rw (add-one, drop-cons to i 0, take-suc from i 0, append-snoc)
-    (set-at (take i from) (getD to i 0) (drop (suc i) to) (getD from i 0) i (length-take-le i from (omega arith)))
 
 -- no word of the one is left
 pub over-from : (i : ℕ) (from to : List ℕ) → i ≡ length from → i ≤ length to → upTo i from to ≡ over from to

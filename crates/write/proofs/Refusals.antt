@@ -117,7 +117,7 @@ module _ (c : Control) (s : Slot) (e : ℕ) where
 
 module _ (st : State) (l r g : List ℕ) where
   -- a slot that is put back as it was
-  lifted-same : (i : ℕ) (a : Answer) → lift i st (lent (refused a (st .control) (slotAt st i) (snapAt st i)) l r g) ≡ lent (refusal a st) l r g
+  pub lifted-same : (i : ℕ) (a : Answer) → lift i st (lent (refused a (st .control) (slotAt st i) (snapAt st i)) l r g) ≡ lent (refusal a st) l r g
   lifted-same i a =
       λ k. lent (refusal a (stateOf (st .control) (set-getD (st .slots) i noSlot k) (set-getD (st .snapshots) i 0 k))) l r g
 

@@ -46,7 +46,7 @@ use Rattle.write.specs.World.{World, worldOf, reply, answerOf, valueOf}
 use Rattle.write.specs.Numbers.{isRun}
 use Rattle.write.proofs.Verdicts.{judging, append-idle, open-idle}
 use Rattle.write.proofs.Control.{Whole, some-slot}
-use Rattle.write.proofs.Cases.{withJob}
+use Rattle.write.proofs.Cases.{withJob, roomy}
 use Rattle.demands.specs.Account.{Reader, Account, withAt, newReader, turned, spoke, unswapped, unpublished, accepts, ofStore, ofReader, missed, withPlan, noted}
 use Rattle.demands.specs.Table.{wanted, wantedValue, worth, worthOn}
 use Rattle.demands.proofs.Others.{on-other, open-other}
@@ -381,10 +381,6 @@ module _ {w : World} {a : Account} (tie : Tie w a) where
                 u (later-keeps (tie .sound) (tie .inv) rest kind key amount f lt);
           }
 
-    roomy : (f : Bool) → f ≡ false → (not f && leb logRoom (c .length)) ≡ false → c .length < logRoom
-    roomy true q h = clash refl q
-    roomy false q h = leb-false logRoom (c .length) h
-
     pub append-right : Right a (Append kind key amount) (reply callOn (Append kind key amount) w)
     unfolding callOn appendOn
     append-right =
@@ -398,7 +394,7 @@ module _ {w : World} {a : Account} (tie : Tie w a) where
         let rest = resting (append-idle (not (lawful kind key amount)) full c s0 v) 7 (not (lawful kind key amount)) full u in
         by ApRight (c .first) (λ f. early-right z rest f (not-false _ (u .operation)))
         (λ f. below ApRight (c .length) logRoom (λ b. later-right z rest f b)
-        (λ b. absurd (let m = roomy (c .first) f (u .log) in omega arith))))
+        (λ b. absurd (let m = roomy (c .length) (c .first) f (u .log) in omega arith))))
         (λ x v. mild-right (Append kind key amount) refl x (refused-mild signs refl x v) (want ∙ ap (λ y. answerNo y 0) v) (kept-at c) (move-same 0 (w .state)))
 
   -- ---- publish, try, flush, take

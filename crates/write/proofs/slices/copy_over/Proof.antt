@@ -5,7 +5,8 @@ use native.Mathlib.Omega.{arith}
 use borrow.Author.Needs.{needs}
 use Rattle.table.proofs.Needs.{all6}
 use lib.ListN.{length, length-set}
-use Rattle.write.proofs.Lent.{upTo, up-to-more, over-from, over-to}
+use Rattle.table.proofs.Moves.{over as upTo, over-next}
+use Rattle.write.proofs.Lent.{over-from, over-to}
 use Rattle.write.proofs.slices.copy_over.Statement.{statement}
 use Rattle.write.proofs.slices.copy_over.Tie as tie
 
@@ -23,7 +24,7 @@ returns c =
 loop-again : tie.Need-loop-again Inv-loop μ-loop
 loop-again c =
     let a = c .before .before .before .before .args in
-    (search needs, search needs, simp length-set (search needs), rw (c .before .before .before .loop .inv .3) (up-to-more (c .before .before .before .loop .i) (a .from .now) (a .to .now) (omega arith) (omega arith)))
+    (search needs, search needs, simp length-set (search needs), rw (c .before .before .before .loop .inv .3) (over-next (c .before .before .before .loop .i) (a .from .now) (a .to .now) (omega arith) (omega arith)))
 
 returns-2 : tie.Need-returns-2 Inv-loop μ-loop
 returns-2 c =
