@@ -1,11 +1,9 @@
--- A table's rule, proved at all of its entries by one test that is computed.
+-- What one computed test says of each element of a list.
 use Prim.Native.Nat.{ℕ, zero, suc, _+_, _<_}
 use mathlib.Core.Path.{_≡_, sym, ap, _∙_}
 use mathlib.Core.Bool.{Bool, true, _&&_}
 use mathlib.Core.List.{List, [], _∷_}
 use native.Mathlib.Omega.{arith}
-use borrow.Author.Tests.{eqb-true}
-use lib.Dec.{eqb}
 use lib.ListN.{length, getD}
 use Rattle.table.proofs.Booleans.{both}
 
@@ -30,17 +28,3 @@ pub at-every :
 at-every f d xs t k h =
     let e : 0 + k ≡ k = omega arith in
     ap (λ (n : ℕ). f n (getD xs k d)) (sym e) ∙ every-at f d 0 xs t k h
-
--- a table of rows: each has n entries, and each entry is what the rule gives for its row and column
-abbrev pub rowRight : ℕ → (ℕ → ℕ → ℕ) → ℕ → List ℕ → Bool
-rowRight n rule i row = eqb (length row) n && every (λ j x. eqb x (rule i j)) 0 row
-
-pub at-table :
-    (n : ℕ) (rule : ℕ → ℕ → ℕ) (t : List (List ℕ)) → every (rowRight n rule) 0 t ≡ true →
-    (i j : ℕ) → i < length t → j < n → getD (getD t i []) j 0 ≡ rule i j
-at-table n rule t e i j h l =
-    let row : List ℕ = getD t i [] in
-    let r : rowRight n rule i row ≡ true = at-every (rowRight n rule) [] t e i h in
-    let (p, q) = both (eqb (length row) n) _ r in
-    let s : length row ≡ n = eqb-true (length row) n p in
-    eqb-true (getD row j 0) (rule i j) (at-every (λ k x. eqb x (rule i k)) 0 row q j (omega arith))

@@ -12,22 +12,23 @@ pub const NOT_NOW: u8 = 6;
 pub const LOCKED: u8 = 7;
 
 // A row for each phase, a column for each call 1 to 14, and for calls 2 to 7 on slot 0 another: 0 is admitted, 6 not now, 7 locked.
+// A row is a word, and its columns are octal digits: what is read of a constant is laid out anew each time, and words are few.
 // After gone the writer's calls have no entry of their own: they are answered 3, which is smaller than what stands there.
-const ADMITS: [[u8; 20]; 14] = [
-    [0, 0, 0, 0, 0, 0, 0, 0, 0, 0, 0, 0, 6, 6, 6, 0, 0, 0, 0, 0],
-    [0, 0, 0, 0, 0, 0, 0, 6, 6, 6, 6, 6, 0, 0, 6, 6, 6, 6, 6, 6],
-    [7, 7, 0, 0, 0, 0, 0, 6, 6, 6, 6, 6, 0, 0, 6, 6, 6, 6, 6, 6],
-    [7, 7, 0, 0, 0, 0, 0, 6, 6, 6, 6, 6, 0, 0, 6, 6, 6, 6, 6, 6],
-    [7, 7, 0, 0, 0, 0, 0, 6, 6, 6, 6, 6, 0, 0, 6, 6, 6, 6, 6, 6],
-    [7, 7, 0, 0, 0, 0, 0, 6, 6, 6, 6, 6, 0, 0, 6, 6, 6, 6, 6, 6],
-    [7, 7, 0, 0, 0, 0, 0, 6, 6, 6, 6, 6, 0, 0, 6, 6, 6, 6, 6, 6],
-    [7, 7, 0, 0, 0, 0, 0, 6, 6, 6, 6, 6, 0, 0, 6, 6, 6, 6, 6, 6],
-    [0, 0, 0, 0, 0, 0, 0, 6, 6, 6, 6, 6, 0, 0, 6, 6, 6, 6, 6, 6],
-    [0, 0, 0, 0, 0, 0, 0, 6, 6, 6, 6, 6, 0, 0, 6, 6, 6, 6, 6, 6],
-    [7, 7, 0, 0, 0, 0, 0, 6, 6, 6, 6, 6, 0, 0, 6, 6, 6, 6, 6, 6],
-    [7, 7, 0, 0, 0, 0, 0, 6, 6, 6, 6, 6, 0, 0, 6, 6, 6, 6, 6, 6],
-    [7, 7, 0, 0, 0, 0, 0, 6, 6, 6, 6, 6, 0, 0, 6, 6, 6, 6, 6, 6],
-    [0, 0, 0, 0, 0, 0, 0, 6, 6, 6, 6, 6, 6, 6, 0, 0, 0, 0, 0, 0],
+const ADMITS: [u64; 14] = [
+    0o00000000000066600000,
+    0o00000006666600666666,
+    0o77000006666600666666,
+    0o77000006666600666666,
+    0o77000006666600666666,
+    0o77000006666600666666,
+    0o77000006666600666666,
+    0o77000006666600666666,
+    0o00000006666600666666,
+    0o00000006666600666666,
+    0o77000006666600666666,
+    0o77000006666600666666,
+    0o77000006666600666666,
+    0o00000006666666000000,
 ];
 
 // A phase by its row.
@@ -57,10 +58,11 @@ pub fn entry(p: Phase, column: usize) -> u8
     ensures { λ r. ⌜ r ≡ entryRule p column ⌝ }
 {
     let i = row(p);
+    let digits = ADMITS[i];
     if column < 20 {
-        return ADMITS[i][column];
+        return ((digits >> (57 - 3 * column)) % 8) as u8;
     }
-    ADMITS[i][19]
+    (digits % 8) as u8
 }
 
 // A call on a handle by its number in a schedule.
