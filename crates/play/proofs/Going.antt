@@ -1,7 +1,7 @@
 -- Step and run, step by step: what is known of a call that is under way, before each step and behind the last.
 use Prim.Native.Nat.{ℕ, suc, _+_, _-_, _<_}
 use mathlib.Core.Path.{_≡_, refl, sym, ap, subst, _∙_}
-use mathlib.Core.Bool.{Bool, true, false, not, _||_, true≢false}
+use mathlib.Core.Bool.{Bool, true, false, not, true≢false}
 use mathlib.Core.List.{List}
 use native.Mathlib.Omega.{arith}
 use borrow.Author.Tests.{eqb-true, eqb-false}
@@ -28,7 +28,6 @@ use Rattle.read.specs.Calls.{Lent, lent, refusal}
 use Rattle.write.specs.declared.Moved.{Moved}
 use Rattle.write.specs.declared.Call.{Call}
 use Rattle.write.specs.declared.Call.the-variants.{Create, On, Append, Open, Step, Run}
-use Rattle.write.specs.Numbers.{isStep, isRun}
 use Rattle.write.specs.Steps.{holds, refused, moved, stopped, lastPollMove, stepAt, at, polling}
 use Rattle.write.specs.Begins.{stepSigns}
 use Rattle.write.specs.Runs.{lift, stepOn, afterStep, runOn}
@@ -38,7 +37,7 @@ use Rattle.write.proofs.Left.{usedAs, step-slot, step-value, step-lowers, manyS
 use Rattle.write.proofs.NeverBroken.{Sound, sound-step}
 use Rattle.play.specs.declared.turns.Far.{Far}
 use Rattle.play.specs.Player.{machine}
-use Rattle.play.specs.Turns.{halt, haltOf, far, facing, wentOn}
+use Rattle.play.specs.Turns.{isGoing, isRunning, halt, haltOf, far, facing, wentOn}
 use Rattle.play.proofs.Run.{runFrom, run-starts, run-over, run-unrolls}
 use Rattle.play.proofs.Turned.{read-slot}
 use Rattle.read.proofs.Cases.{stateOf}
@@ -141,7 +140,7 @@ module _ (st : State) (l r g : List ℕ) where
   unfolding smallest entry
   verdict-run = refl
 
-  call-underway : (k : Call) → (isStep k || isRun k) ≡ true → underway (st .control .phase) ≡ true → callOn k st l r g ≡ due (isRun k) 0 st l r g
+  call-underway : (k : Call) → isGoing k ≡ true → underway (st .control .phase) ≡ true → callOn k st l r g ≡ due (isRunning k) 0 st l r g
   unfolding callOn
   call-underway Create p u = absurd (true≢false (sym p))
   call-underway (On i h) p u = absurd (true≢false (sym p))
@@ -151,7 +150,7 @@ module _ (st : State) (l r g : List ℕ) where
   call-underway Run p u = going-underway runOn 13 verdict-run u ∙ run-starts st l r g
 
   call-idle :
-      (k : Call) → (isStep k || isRun k) ≡ true → underway (st .control .phase) ≡ false →
+      (k : Call) → isGoing k ≡ true → underway (st .control .phase) ≡ false →
       callOn k st l r g ≡ lent (refusal (halt (st .control .phase) (st .control .job) true) st) l r g
   unfolding callOn
   call-idle Create p u = absurd (true≢false (sym p))
@@ -248,14 +247,14 @@ module _ (n : ℕ) (c : Control) (ss : List Slot) (es l r g : List ℕ) (h : Sou
 
 -- a step or a run begins
 pub going-starts :
-    (k : Call) → (isStep k || isRun k) ≡ true → (c : Control) (ss : List Slot) (es l r g : List ℕ) → Sound (stateOf c ss es) l r g →
-    Going (callOn k (stateOf c ss es) l r g) (isRun k) (facing 0 (haltOf c (hereSlot c ss) (hereSnap c es))) c ss es l r g
+    (k : Call) → isGoing k ≡ true → (c : Control) (ss : List Slot) (es l r g : List ℕ) → Sound (stateOf c ss es) l r g →
+    Going (callOn k (stateOf c ss es) l r g) (isRunning k) (facing 0 (haltOf c (hereSlot c ss) (hereSnap c es))) c ss es l r g
 going-starts k p c ss es l r g h =
     let st = stateOf c ss es in
-    faces 0 c ss es l r g h (isRun k) (call-underway st l r g k p)
+    faces 0 c ss es l r g h (isRunning k) (call-underway st l r g k p)
     (λ z.
     split (underway (c .phase))
-    (λ u. call-underway st l r g k p u ∙ due-halted 0 c ss es l r g h (isRun k) (λ e. refl) u z)
+    (λ u. call-underway st l r g k p u ∙ due-halted 0 c ss es l r g h (isRunning k) (λ e. refl) u z)
     (λ u.
     call-idle st l r g k p u
     ∙ ap (λ (a : Answer). lent (refusal a st) l r g) (idle-held (c .phase) (c .job) (holds (hereSlot c ss) (hereSnap c es)) u)))
@@ -263,11 +262,11 @@ going-starts k p c ss es l r g h =
 
 -- the same of the slot at k
 pub going-begins :
-    (k : Call) → (isStep k || isRun k) ≡ true → (c : Control) (ss : List Slot) (es l r g : List ℕ) → Sound (stateOf c ss es) l r g → {i : ℕ} →
+    (k : Call) → isGoing k ≡ true → (c : Control) (ss : List Slot) (es l r g : List ℕ) → Sound (stateOf c ss es) l r g → {i : ℕ} →
     i ≡ place (c .phase) → {s : Slot} → s ≡ getD ss i noSlot → {f : Far} → f ≡ facing 0 (haltOf c s (getD es i 0)) →
-    Going (callOn k (stateOf c ss es) l r g) (isRun k) f c ss es l r g
+    Going (callOn k (stateOf c ss es) l r g) (isRunning k) f c ss es l r g
 going-begins k p c ss es l r g h {i} e q x =
-    subst (λ (f : Far). Going (callOn k (stateOf c ss es) l r g) (isRun k) f c ss es l r g)
+    subst (λ (f : Far). Going (callOn k (stateOf c ss es) l r g) (isRunning k) f c ss es l r g)
     (sym
     (x ∙ ap (λ (s : Slot). facing 0 (haltOf c s (getD es i 0))) q
     ∙ ap (λ (i : ℕ). facing 0 (haltOf c (getD ss i noSlot) (getD es i 0))) e))

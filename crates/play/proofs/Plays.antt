@@ -2,7 +2,7 @@
 -- written, and the machine that is to be reached.
 use Prim.Native.Nat.{ℕ, suc, _+_, _-_, _*_, _/_, _≤_, _<_}
 use mathlib.Core.Path.{_≡_, refl, sym, ap, subst, _∙_}
-use mathlib.Core.Bool.{false, _||_}
+use mathlib.Core.Bool.{false}
 use mathlib.Core.List.{List, [], _++_, append-assoc, append-nil}
 use native.Mathlib.Omega.{arith}
 use lib.ListN.{length, getD, set, take, drop, length-append, length-drop, take-append-drop}
@@ -16,7 +16,7 @@ use Rattle.read.specs.Machine.{slotCount, noSlot, judged}
 use Rattle.read.specs.Calls.{Lent, lent}
 use Rattle.write.specs.declared.Moved.{Moved}
 use Rattle.write.specs.declared.Call.{Call}
-use Rattle.write.specs.Numbers.{isStep, isRun, slotOf}
+use Rattle.write.specs.Numbers.{slotOf}
 use Rattle.write.specs.Machine.{callOn, callRule}
 use Rattle.write.specs.World.{World, worldOf, answerOf, valueOf, Played, answering, played}
 use Rattle.write.proofs.Judged.{judged-good}
@@ -27,14 +27,14 @@ use Rattle.format.specs.Schedule.{recordBytes}
 use Rattle.format.specs.Transcript.{entryBytes, entryOf, entriesOf}
 use Rattle.play.specs.Schedule.{decoded, callsFrom, callsIn}
 use Rattle.play.specs.Player.{transcript, machine}
-use Rattle.play.specs.Turns.{turnOn, over}
+use Rattle.play.specs.Turns.{isGoing, turnOn, over}
 use Rattle.play.proofs.Turned.{sought, within, putSlot, turn-made}
 use Rattle.play.proofs.Going.{Said, said}
 use Rattle.read.proofs.Cases.{stateOf}
 
 -- a call that takes one turn: what its move says, its slot being put back
 pub turn-said :
-    (k : Call) → (isStep k || isRun k) ≡ false → (c : Control) (ss : List Slot) (es l r g : List ℕ) {i : ℕ} → i ≡ sought k ss (slotOf k) →
+    (k : Call) → isGoing k ≡ false → (c : Control) (ss : List Slot) (es l r g : List ℕ) {i : ℕ} → i ≡ sought k ss (slotOf k) →
     {s : Slot} → s ≡ getD ss (within i) noSlot → {m : Moved} {l' r' g' : List ℕ} → lent m l' r' g' ≡ turnOn k i c s l r g →
     Said (callOn k (stateOf c ss es) l r g) (over m) (m .control) (set ss (within i) (m .slot)) es l' r' g'
 turn-said k p c ss es l r g {i} e q x =

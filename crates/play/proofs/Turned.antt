@@ -1,7 +1,7 @@
 -- A call that takes one turn: where its search for a slot ends, and that its move, put back, is what the machine gives.
 use Prim.Native.Nat.{ℕ, _+_, _-_, _%_, _^_, _<_}
 use mathlib.Core.Path.{_≡_, refl, sym, ap, _∙_}
-use mathlib.Core.Bool.{Bool, true, false, not, _&&_, _||_, true≢false}
+use mathlib.Core.Bool.{Bool, true, false, not, _&&_, true≢false}
 use mathlib.Core.List.{List}
 use native.Mathlib.Omega.{arith}
 use borrow.Author.Tests.{lt-ltb, ltb-true, ltb-false, leb-true, leb-false}
@@ -31,12 +31,12 @@ use Rattle.write.specs.declared.Call.the-variants.{Create, On, Append, Open, St
 use Rattle.write.specs.declared.Moved.{Moved}
 use Rattle.write.specs.declared.Opening.{Opening}
 use Rattle.write.specs.declared.Opening.the-variants as opening
-use Rattle.write.specs.Numbers.{isStep, isRun, slotOf}
+use Rattle.write.specs.Numbers.{slotOf}
 use Rattle.write.specs.Steps.{refused, withLog, ofLeft, ofRight, operated}
 use Rattle.write.specs.Begins.{writerSigns, logged, madeAtOnce, appendOn, columnOf, begun, value, opened, openOn}
 use Rattle.write.specs.Runs.{snapAt, lift}
 use Rattle.write.specs.Machine.{callOn}
-use Rattle.play.specs.Turns.{passes, waits, movedAs, turnOn}
+use Rattle.play.specs.Turns.{isGoing, passes, waits, movedAs, turnOn}
 use Rattle.read.proofs.Verdicts.{given}
 
 -- ---- the search
@@ -254,7 +254,7 @@ module _ (st : State) where
           ∙ ap (λ (j : ℕ). putSlot j st (lent (touches h (slotAt st j) false) l r g)) (sym (within-here i b))
 
     pub turn-made :
-        (k : Call) → (isStep k || isRun k) ≡ false →
+        (k : Call) → isGoing k ≡ false →
         (let i = sought k (st .slots) (slotOf k) in
         callOn k st l r g ≡ putSlot (within i) st (turnOn k i c (slotAt st (within i)) l r g))
     unfolding callOn turnOn appendOn openOn

@@ -24,6 +24,25 @@ use Rattle.write.specs.Begins.{appendOn, openOn}
 use Rattle.write.specs.Steps.{holds}
 use Rattle.play.specs.declared.turns.Far.{Far}
 
+-- ---- step and run
+
+-- step or run
+abbrev pub isGoing : Call → Bool
+isGoing Create = false
+isGoing (On i h) = false
+isGoing (Append kind key amount) = false
+isGoing (Open o) = false
+isGoing Step = true
+isGoing Run = true
+
+abbrev pub isRunning : Call → Bool
+isRunning Create = false
+isRunning (On i h) = false
+isRunning (Append kind key amount) = false
+isRunning (Open o) = false
+isRunning Step = false
+isRunning Run = true
+
 -- ---- a call that takes one turn
 
 -- a create passes a slot that is in use

@@ -15,12 +15,11 @@ use write::Moved;
 use write::begins;
 use write::steps;
 ghost use mathlib.Core.Path.{_≡_};
-ghost use mathlib.Core.Bool.{_||_};
 ghost use Prim.Native.Nat.{_<_, _^_};
 ghost use Rattle.read.specs.Calls.{lent};
-ghost use Rattle.write.specs.Numbers.{isStep, isRun, slotOf};
+ghost use Rattle.write.specs.Numbers.{slotOf};
 ghost use Rattle.write.specs.Steps.{holds};
-ghost use Rattle.play.specs.Turns.{passes as passesRule, waits as waitsRule, movedAs, created, touched, turnOn, halt as haltRule, haltOf, far as farRule, facing as facingRule, over as overRule, ranOn, wentOn};
+ghost use Rattle.play.specs.Turns.{isGoing, isRunning, passes as passesRule, waits as waitsRule, movedAs, created, touched, turnOn, halt as haltRule, haltOf, far as farRule, facing as facingRule, over as overRule, ranOn, wentOn};
 
 // ---- a call that takes one turn
 
@@ -141,7 +140,7 @@ pub(crate) struct Far {
 
 // Step or run.
 pub(crate) fn is_going(call: Call) -> bool
-    ensures { λ r. ⌜ r ≡ (isStep call || isRun call) ⌝ }
+    ensures { λ r. ⌜ r ≡ isGoing call ⌝ }
 {
     match call {
         Call::Create => false,
@@ -154,7 +153,7 @@ pub(crate) fn is_going(call: Call) -> bool
 }
 
 fn is_run(call: Call) -> bool
-    ensures { λ r. ⌜ r ≡ isRun call ⌝ }
+    ensures { λ r. ⌜ r ≡ isRunning call ⌝ }
 {
     match call {
         Call::Create => false,
@@ -250,7 +249,7 @@ fn ran_on(n: u64, m: Moved, c: Control, s: Slot, e: u64) -> Far
 // A step or a run behind a step, of which `n` were made before.
 pub(crate) fn went_on(call: Call, n: u64, m: Moved, c: Control, s: Slot, e: u64) -> Far
     requires { ⌜ n < 2 ^ 32 ⌝ }
-    ensures { λ r. ⌜ r ≡ wentOn (isRun call) n m (haltOf c s e) ⌝ }
+    ensures { λ r. ⌜ r ≡ wentOn (isRunning call) n m (haltOf c s e) ⌝ }
 {
     if is_run(call) {
         return ran_on(n, m, c, s, e);

@@ -1,6 +1,6 @@
 -- A call by its number in a schedule, with the slot and the guard that it names.
 use Prim.Native.Nat.{ℕ}
-use mathlib.Core.Bool.{Bool, true, false, _&&_}
+use mathlib.Core.Bool.{Bool, true, _&&_}
 use lib.Dec.{eqb, leb}
 use Rattle.table.specs.Copy.{lawful}
 use Rattle.read.specs.Admission.{handleNumber, guardNamed}
@@ -30,20 +30,10 @@ abbrev pub among : ℕ → ℕ → Call → Bool
 among m n k = leb m (callNumber k) && leb (callNumber k) n
 
 abbrev pub isStep : Call → Bool
-isStep Create = false
-isStep (On i h) = false
-isStep (Append kind key amount) = false
-isStep (Open o) = false
-isStep Step = true
-isStep Run = false
+isStep = is 13
 
 abbrev pub isRun : Call → Bool
-isRun Create = false
-isRun (On i h) = false
-isRun (Append kind key amount) = false
-isRun (Open o) = false
-isRun Step = false
-isRun Run = true
+isRun = is 14
 
 abbrev pub isTry : Opening → Bool
 isTry o = is 10 (Open o)

@@ -10,7 +10,8 @@ use lib.ListN.{length, getD, length-map}
 use Rattle.read.specs.declared.Slot.{Slot}
 use Rattle.read.specs.Machine.{slotTotal, slotCount, noSlot, place}
 use Rattle.write.specs.declared.Call.{Call}
-use Rattle.write.specs.Numbers.{isRun, slotOf}
+use Rattle.write.specs.Numbers.{slotOf}
+use Rattle.play.specs.Turns.{isRunning}
 use Rattle.write.specs.Machine.{callOn, callRule}
 use Rattle.write.specs.World.{played}
 use Rattle.write.proofs.NeverBroken.{Sound}
@@ -27,7 +28,7 @@ use Rattle.read.proofs.Cases.{stateOf}
 
 abbrev Inv-loop2 : tie.InvT-loop2
 Inv-loop2 s out left₀ right₀ log₀ c₀ slots₀ snaps₀ end from to call far₀ k₀ left right log c slots snaps far k =
-    Going (callOn call (stateOf c₀ slots₀ snaps₀) left₀ right₀ log₀) (isRun call) far c slots snaps left right log × (k ≡ place (c .phase))
+    Going (callOn call (stateOf c₀ slots₀ snaps₀) left₀ right₀ log₀) (isRunning call) far c slots snaps left right log × (k ≡ place (c .phase))
 
 abbrev μ-loop2 : tie.MeasureT-loop2
 μ-loop2 s out left₀ right₀ log₀ c₀ slots₀ snaps₀ end from to call far₀ k₀ left right log c slots snaps far k = ahead far c
@@ -66,7 +67,7 @@ going : (c : tie.In-loop2 Inv-loop2 μ-loop2 Inv-loop3 μ-loop3 Inv-loop μ-loop
     (let v = c .before .loop2 in
     let b = c .before .before .before .before .before .before .before .before .before .before .loop in
     let k = c .before .before .before .before .before .before .before .before .decode .result in
-    Goes (callOn k (stateOf (b .c) (b .slots) (b .snaps)) (b .left) (b .right) (b .log)) (isRun k) (v .far .value) (v .c) (v .slots) (v .snaps) (v .left) (v .right) (v .log))
+    Goes (callOn k (stateOf (b .c) (b .slots) (b .snaps)) (b .left) (b .right) (b .log)) (isRunning k) (v .far .value) (v .c) (v .slots) (v .snaps) (v .left) (v .right) (v .log))
 going c = c .before .loop2 .inv .0 .goes (c .loop2-test .taken)
 
 own : (c : tie.In-loop2 Inv-loop2 μ-loop2 Inv-loop3 μ-loop3 Inv-loop μ-loop) (d : Slot) → (let v = c .before .loop2 in getD (v .slots) (v .k) d ≡ getD (v .slots) (v .k) noSlot)
