@@ -1,6 +1,9 @@
 -- A function's `spec` takes an answer to each of its needs, one after the other. Here it takes the next few as one tuple, so that one
 -- call of a tactic answers them all.
 
+pub all2 : {A B : Type 0} {F : Type 2} → (A → B → F) → A × B → F
+all2 f n = f (n .0) (n .1)
+
 pub all3 : {A B C : Type 0} {F : Type 2} → (A → B → C → F) → A × B × C → F
 all3 f n = f (n .0) (n .1) (n .2)
 

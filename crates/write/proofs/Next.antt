@@ -17,6 +17,10 @@ use Rattle.read.specs.Handles.{bit}
 use Rattle.write.specs.declared.Moved.{Moved}
 use Rattle.write.specs.Steps.{keeping, draining, polled, polling, beginning, published, lastPolling, lastSnapping, at, withLog, ended, snapping, drained, holds, moved, refused, stopped, pollMove, lastPollMove}
 
+-- what a call's contract says of its result, and what a test found of it
+pub found : {A : Type 0} {r x y : A} → r ≡ x → r ≡ y → x ≡ y
+found e f = sym e ∙ f
+
 -- ---- the operations of the log
 
 pub keeping-here : (n k : ℕ) → k < n → Keep k ≡ keeping n k

@@ -1,5 +1,6 @@
 -- Past the first test the copy is fit, so the pair lies within it; each part is what the rule shows.
 use borrow.Author.Needs.{needs}
+use Rattle.table.proofs.Needs.{all2}
 use Prim.Native.Nat.{_+_, _-_, _*_}
 use mathlib.Core.Path.{_≡_, sym, _∙_}
 use mathlib.Core.Bool.{true}
@@ -56,20 +57,4 @@ returns-3 c =
 
 pub look-up-spec : {M : Type 1} → statement M
 look-up-spec =
-    tie.close
-    (tie.spec
-    (λ c κs. search needs)
-    (λ c. search needs)
-    returns
-    first-requires
-    shared-slice-read-if2
-    mul-at
-    add-at
-    add-end
-    mul-result
-    (λ c. search needs)
-    (λ c. search needs)
-    part-result-end
-    returns-2
-    (λ c. search needs)
-    returns-3)
+    tie.close (all2 (all2 tie.spec (omega arith) returns first-requires shared-slice-read-if2 mul-at add-at add-end mul-result) (omega arith) part-result-end returns-2 (λ c. search needs) returns-3)

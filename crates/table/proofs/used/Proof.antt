@@ -1,5 +1,5 @@
 -- Past the first test the copy is fit, so the used part lies within it.
-use borrow.Author.Needs.{needs}
+use Rattle.table.proofs.Needs.{all2}
 use mathlib.Core.Path.{_≡_, sym, _∙_}
 use mathlib.Core.Bool.{true}
 use native.Mathlib.Omega.{arith}
@@ -37,13 +37,4 @@ returns-2 c = sym (used-fit _ (fits-here (c .before .before)))
 
 pub used-spec : {M : Type 1} → statement M
 used-spec =
-    tie.close
-    (tie.spec
-    (λ c κs. search needs)
-    (λ c. search needs)
-    returns
-    shared-slice-read-end
-    mul-end
-    add-end
-    slice-aggregate-result-2
-    returns-2)
+    tie.close (all2 tie.spec (omega arith) returns shared-slice-read-end mul-end add-end slice-aggregate-result-2 returns-2)

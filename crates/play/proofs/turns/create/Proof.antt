@@ -5,7 +5,9 @@ use Rattle.table.specs.declared.Answer.the-variants.{Done}
 use Rattle.read.specs.declared.Slot.{Slot}
 use Rattle.read.specs.Machine.{slotTotal}
 use Rattle.play.specs.Turns.{movedAs, created}
+use native.Mathlib.Omega.{arith}
 use borrow.Author.Needs.{needs}
+use Rattle.table.proofs.Needs.{all2}
 use Rattle.play.proofs.turns.create.Statement.{statement}
 use Rattle.play.proofs.turns.create.Tie as tie
 
@@ -28,13 +30,4 @@ returns-3 c =
 
 pub create-spec : {M : Type 1} → statement M
 create-spec =
-    tie.close
-    (tie.spec
-    (λ c κs. search needs)
-    (λ c κs. search needs)
-    returns
-    (λ c κs. search needs)
-    returns-2
-    (λ c κs. search needs)
-    (λ c κs. search needs)
-    returns-3)
+    tie.close (all2 (all2 tie.spec (omega arith) returns (λ c κs. search needs) returns-2) (omega arith) returns-3)

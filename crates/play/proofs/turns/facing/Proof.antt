@@ -2,7 +2,8 @@
 use mathlib.Core.Path.{_≡_, ap, _∙_}
 use lib.Dec.{eqb}
 use Rattle.play.specs.Turns.{halt, haltOf, far, facing}
-use borrow.Author.Needs.{needs}
+use native.Mathlib.Omega.{arith}
+use Rattle.table.proofs.Needs.{all4}
 use Rattle.play.proofs.turns.facing.Statement.{statement}
 use Rattle.play.proofs.turns.facing.Tie as tie
 
@@ -15,4 +16,4 @@ returns c =
 
 pub facing-spec : {M : Type 1} → statement M
 facing-spec =
-    tie.close (tie.spec (λ c κs. search needs) (λ c κs. search needs) (λ c κs. search needs) (λ c κs. search needs) returns)
+    tie.close (all4 tie.spec (omega arith) returns)

@@ -3,7 +3,8 @@ use mathlib.Core.Path.{sym, _∙_}
 use borrow.Author.Tests.{eq-eqb, ne-eqb}
 use Rattle.table.specs.Answers.{number}
 use Rattle.play.specs.Turns.{ranOn}
-use borrow.Author.Needs.{needs}
+use native.Mathlib.Omega.{arith}
+use Rattle.table.proofs.Needs.{all2}
 use Rattle.play.proofs.turns.ran_on.Statement.{statement}
 use Rattle.play.proofs.turns.ran_on.Tie as tie
 
@@ -28,14 +29,4 @@ returns-3 c =
 
 pub ran-on-spec : {M : Type 1} → statement M
 ran-on-spec =
-    tie.close
-    (tie.spec
-    (λ c κs. search needs)
-    (λ c κs. search needs)
-    returns
-    (λ c. search needs)
-    (λ c κs. search needs)
-    returns-2
-    (λ c. search needs)
-    (λ c κs. search needs)
-    returns-3)
+    tie.close (all2 (all2 (all2 tie.spec (omega arith) returns) (omega arith) returns-2) (omega arith) returns-3)

@@ -4,7 +4,9 @@ use Rattle.read.specs.Calls.{lent}
 use Rattle.write.specs.declared.Call.{Call}
 use Rattle.write.specs.declared.Moved.{Moved}
 use Rattle.play.specs.Turns.{turnOn}
+use native.Mathlib.Omega.{arith}
 use borrow.Author.Needs.{needs}
+use Rattle.table.proofs.Needs.{all3, all12}
 use Rattle.play.proofs.turns.turn.Statement.{statement}
 use Rattle.play.proofs.turns.turn.Tie as tie
 
@@ -52,28 +54,4 @@ returns-6 c =
 
 pub turn-spec : {M : Type 1} → statement M
 turn-spec =
-    tie.close
-    (tie.spec
-    (λ c. search needs)
-    (λ c κs. search needs)
-    (λ c. search needs)
-    (λ c κs. search needs)
-    (λ c. search needs)
-    (λ c κs. search needs)
-    (λ c. search needs)
-    (λ c κs. search needs)
-    (λ c. search needs)
-    (λ c κs. search needs)
-    (λ c. search needs)
-    (λ c κs. search needs)
-    returns
-    (λ c. search needs)
-    (λ c. search needs)
-    returns-2
-    (λ c. search needs)
-    (λ c. search needs)
-    (λ c. search needs)
-    returns-3
-    returns-4
-    returns-5
-    returns-6)
+    tie.close (all3 (all12 tie.spec (omega arith) returns (λ c. search needs) (λ c. search needs) returns-2) (omega arith) returns-3 returns-4 returns-5 returns-6)

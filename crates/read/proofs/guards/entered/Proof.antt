@@ -1,6 +1,7 @@
 -- By whether a guard is open.
 use mathlib.Core.Path.{sym, _∙_}
-use borrow.Author.Needs.{needs}
+use native.Mathlib.Omega.{arith}
+use Rattle.table.proofs.Needs.{all2}
 use Rattle.read.proofs.Cases.{entered-inside, entered-outside}
 use Rattle.read.proofs.guards.entered.Statement.{statement}
 use Rattle.read.proofs.guards.entered.Tie as tie
@@ -17,11 +18,4 @@ returns-2 c =
 
 pub entered-spec : {M : Type 1} → statement M
 entered-spec =
-    tie.close
-    (tie.spec
-    (λ c κs. search needs)
-    (λ c κs. search needs)
-    returns
-    (λ c κs. search needs)
-    (λ c κs. search needs)
-    returns-2)
+    tie.close (all2 (all2 tie.spec (omega arith) returns) (omega arith) returns-2)

@@ -6,12 +6,6 @@ use Rattle.read.proofs.Cases.{released-one, released-last}
 use Rattle.read.proofs.guards.released.Statement.{statement}
 use Rattle.read.proofs.guards.released.Tie as tie
 
-returns : tie.Need-returns
-returns c =
-    let a = c .before .before .before .before .before .before .args in
-    released-one (a .j) (a .s) (c .before .before .before .before .shut .ensures) (c .before .before .before .put-guard .ensures)
-    (c .before .before .any-open .ensures) (c .before .if1 .taken) (c .with-reading .ensures)
-
 returns-2 : tie.Need-returns-2
 returns-2 c =
     let a = c .before .before .before .before .before .before .before .args in
@@ -20,4 +14,4 @@ returns-2 c =
 
 pub released-spec : {M : Type 1} → statement M
 released-spec =
-    tie.close (all4 tie.spec (omega arith) returns (λ c κs. search needs) (λ c κs. search needs) returns-2)
+    tie.close (all4 tie.spec (omega arith) (λ c. search released-one) (λ c κs. search needs) (λ c κs. search needs) returns-2)

@@ -15,10 +15,5 @@ returns-2 c =
     let a = c .before .before .before .args in
     sym (copy-left (a .t1) (a .j) (a .left .now) (a .right .now) (stands-in (a .t1) (a .j) (c .before .before .if1 .taken) ∙ c .if2 .left))
 
-returns-3 : tie.Need-returns-3
-returns-3 c =
-    let a = c .before .args in
-    sym (copy-left (a .t1) (a .j) (a .left .now) (a .right .now) (stands-out (a .t1) (a .j) (c .if1 .left)))
-
 pub guarded-copy-spec : {M : Type 1} → statement M
-guarded-copy-spec = tie.close (tie.spec (λ c. search needs) (λ c. search needs) returns returns-2 returns-3)
+guarded-copy-spec = tie.close (tie.spec (λ c. search needs) (λ c. search needs) returns returns-2 (λ c. search (copy-left, stands-out)))

@@ -2,7 +2,9 @@
 use Prim.Native.Nat.{ℕ}
 use mathlib.Core.Bool.{_||_}
 use mathlib.Core.Path.{_≡_, refl, sym, ap, _∙_}
+use native.Mathlib.Omega.{arith}
 use borrow.Author.Needs.{needs}
+use Rattle.table.proofs.Needs.{all2}
 use borrow.Author.Tests.{eq-eqb, ne-eqb}
 use lib.Dec.{eqb}
 use Rattle.read.specs.Admission.{handleNumber, guardNamed, columnBy, column, entry}
@@ -27,9 +29,6 @@ number-is x = x .before .before .before .number .ensures .0
 
 guard-is : (x : tie.After-entry) → x .before .before .guard-named .result ≡ guardNamed (x .before .before .before .before .before .args .h)
 guard-is x = x .before .before .guard-named .ensures
-
-returns : tie.Need-returns
-returns c = first-here _ _ _ (c .if1 .taken) refl
 
 -- not now, by the table or by what is due
 late-is : (x : tie.After-either) →
@@ -107,21 +106,4 @@ returns-7 c =
 
 pub verdict-spec : {M : Type 1} → statement M
 verdict-spec =
-    tie.close
-    (tie.spec
-    (λ c κs. search needs)
-    (λ c κs. search needs)
-    column-requires
-    (λ c κs. search needs)
-    returns
-    (λ c κs. search needs)
-    (λ c κs. search needs)
-    returns-2
-    returns-3
-    (λ c κs. search needs)
-    returns-4
-    (λ c κs. search needs)
-    returns-5
-    (λ c κs. search needs)
-    returns-6
-    returns-7)
+    tie.close (all2 (all2 tie.spec (omega arith) column-requires (λ c κs. search needs) (λ c. search first-here)) (omega arith) returns-2 returns-3 (λ c κs. search needs) returns-4 (λ c κs. search needs) returns-5 (λ c κs. search needs) returns-6 returns-7)

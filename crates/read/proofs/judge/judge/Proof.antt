@@ -1,6 +1,8 @@
 -- The glance first, and then the log.
 use mathlib.Core.Path.{sym, _∙_}
+use native.Mathlib.Omega.{arith}
 use borrow.Author.Needs.{needs}
+use Rattle.table.proofs.Needs.{all2}
 use Rattle.read.proofs.Cases.{glanced-room, judged-refused, judged-broken, judged-whole}
 use Rattle.read.proofs.judge.judge.Statement.{statement}
 use Rattle.read.proofs.judge.judge.Tie as tie
@@ -30,12 +32,4 @@ returns-3 c =
 
 pub judge-spec : {M : Type 1} → statement M
 judge-spec =
-    tie.close
-    (tie.spec
-    (λ c κs. search needs)
-    (λ c. search needs)
-    enum-told
-    first-unlawful-requires
-    returns
-    returns-2
-    returns-3)
+    tie.close (all2 tie.spec (omega arith) enum-told first-unlawful-requires returns returns-2 returns-3)

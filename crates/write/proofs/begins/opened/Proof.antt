@@ -10,26 +10,6 @@ returns c =
     let a = c .before .before .before .before .before .before .args in
     opened-flush (a .o) (a .c) (a .s) (a .e) (c .before .before .before .before .enum-told3 .given .1) (c .before .before .if1 .taken) (c .before .begun2 .ensures) (c .value3 .ensures)
 
-returns-2 : tie.Need-returns-2
-returns-2 c =
-    let a = c .before .before .before .before .args in
-    opened-publish (a .o) (a .c) (a .s) (a .e) (c .before .before .enum-told .given .1) (c .before .begun .ensures) (c .value .ensures)
-
-returns-3 : tie.Need-returns-3
-returns-3 c =
-    let a = c .before .before .before .before .args in
-    opened-try (a .o) (a .c) (a .s) (a .e) (c .before .before .enum-told2 .given .1) (c .before .standing .ensures) (c .value2 .ensures)
-
-returns-4 : tie.Need-returns-4
-returns-4 c =
-    let a = c .before .before .before .before .before .args in
-    opened-idle (a .o) (a .c) (a .s) (a .e) (c .before .before .before .enum-told3 .given .1) (c .before .if1 .left) (c .value4 .ensures)
-
-returns-5 : tie.Need-returns-5
-returns-5 c =
-    let a = c .before .before .before .before .before .args in
-    opened-take (a .o) (a .c) (a .s) (a .e) (c .before .before .before .enum-told4 .given .1) (c .before .before .taking .ensures) (c .before .standing2 .ensures) (c .value5 .ensures)
-
 pub opened-spec : {M : Type 1} → statement M
 opened-spec =
-    tie.close (all5 (all9 tie.spec (omega arith) returns) (omega arith) returns-2 returns-3 returns-4 returns-5)
+    tie.close (all5 (all9 tie.spec (omega arith) returns) (omega arith) (λ c. search opened-publish) (λ c. search opened-try) (λ c. search opened-idle) (λ c. search opened-take))

@@ -4,8 +4,5 @@ use Rattle.write.proofs.Next.{beginning-poll}
 use Rattle.write.proofs.phases.beginning.Statement.{statement}
 use Rattle.write.proofs.phases.beginning.Tie as tie
 
-returns-2 : tie.Need-returns-2
-returns-2 c = beginning-poll (c .before .args .c) (c .if1 .left)
-
 pub beginning-spec : {M : Type 1} → statement M
-beginning-spec = tie.close (tie.spec (λ c. search needs) returns-2)
+beginning-spec = tie.close (tie.spec (λ c. search needs) (λ c. search beginning-poll))

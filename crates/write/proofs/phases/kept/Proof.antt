@@ -6,20 +6,10 @@ use Rattle.write.proofs.Next.{keeping-here, keeping-done}
 use Rattle.write.proofs.phases.kept.Statement.{statement}
 use Rattle.write.proofs.phases.kept.Tie as tie
 
-returns : tie.Need-returns
-returns c =
-    let a = c .before .before .args in
-    keeping-here (a .n) (a .k + 1) (c .if2 .taken)
-
-returns-2 : tie.Need-returns-2
-returns-2 c =
-    let a = c .before .before .args in
-    keeping-done (a .n) (a .k + 1) (c .if2 .left)
-
 returns-3 : tie.Need-returns-3
 returns-3 c =
     let a = c .before .args in
     keeping-done (a .n) (a .k + 1) (omega arith)
 
 pub kept-spec : {M : Type 1} → statement M
-kept-spec = tie.close (tie.spec (λ c. search needs) returns returns-2 returns-3)
+kept-spec = tie.close (tie.spec (λ c. search needs) (λ c. search keeping-here) (λ c. search keeping-done) returns-3)

@@ -10,11 +10,6 @@ returns c =
     let a = c .before .before .before .before .before .before .before .before .before .before .args in
     logged-applied (a .log .now) (a .i) (a .w .now) (c .before .before .before .before .before .before .before .if1 .taken) (c .before .before .before .before .before .before .fetch .ensures) (c .before .before .before .before .before .fetch2 .ensures) (c .before .before .before .before .fetch3 .ensures) (c .before .before .apply .ensures)
 
-returns-2 : tie.Need-returns-2
-returns-2 c =
-    let a = c .before .before .before .args in
-    logged-beyond (a .log .now) (a .i) (a .w .now) (c .if1 .left)
-
 pub apply-logged-spec : {M : Type 1} → statement M
 apply-logged-spec =
-    tie.close (all8 tie.spec (omega arith) returns returns-2)
+    tie.close (all8 tie.spec (omega arith) returns (λ c. search logged-beyond))

@@ -1,21 +1,10 @@
 -- By whether the poll is held.
-use mathlib.Core.Path.{sym, _∙_}
 use borrow.Author.Needs.{needs}
-use Rattle.write.proofs.Next.{poll-stopped, poll-passed}
+use Rattle.write.proofs.Next.{found, poll-stopped, poll-passed}
 use Rattle.write.proofs.steps.poll.Statement.{statement}
 use Rattle.write.proofs.steps.poll.Tie as tie
-
-returns : tie.Need-returns
-returns c =
-    let a = c .before .before .before .args in
-    poll-stopped (a .c) (a .s) (a .e) (a .k) (sym (c .before .before .holds .ensures) ∙ c .before .if1 .taken) (c .stopped .ensures)
-
-returns-2 : tie.Need-returns-2
-returns-2 c =
-    let a = c .before .before .before .before .args in
-    poll-passed (a .c) (a .s) (a .e) (a .k) (sym (c .before .before .before .holds .ensures) ∙ c .before .before .if1 .left) (c .before .passed .ensures) (c .moved-to .ensures)
 
 pub poll-spec : {M : Type 1} → statement M
 poll-spec =
     tie.close
-    (tie.spec (λ c κs. search needs) (λ c κs. search needs) returns (λ c κs. search needs) (λ c κs. search needs) returns-2)
+    (tie.spec (λ c κs. search needs) (λ c κs. search needs) (λ c. search (poll-stopped, found)) (λ c κs. search needs) (λ c κs. search needs) (λ c. search (poll-passed, found)))
