@@ -1,4 +1,4 @@
--- What the contracts of the text that is gathered say. The two sizes are those of the constants `gather::SIZE` and `RECORDS`.
+-- What the text that is gathered keeps to. The two sizes are those of the constants `gather::SIZE` and `RECORDS`. No public contract cites this.
 use Prim.Native.Nat.{ℕ, _≤_}
 
 abbrev pub pageBytes : ℕ

@@ -1,4 +1,4 @@
--- A run's scan over the slots: the polls of one phase, one after the other.
+-- A run's scan over the slots: the polls of one phase, one after the other. No public contract cites this.
 use Prim.Native.Nat.{ℕ}
 use mathlib.Core.Bool.{Bool, true, false, _||_}
 use lib.Dec.{eqb}

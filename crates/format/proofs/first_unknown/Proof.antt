@@ -1,7 +1,9 @@
 -- Before a turn at i what is sought is what the rule still seeks from i on.
 use Prim.Native.Nat.{_≤_, _-_}
 use mathlib.Core.Path.{_≡_, sym, ap, _∙_}
+use native.Mathlib.Omega.{arith}
 use borrow.Author.Needs.{needs}
+use Rattle.table.proofs.Needs.{all2, all3}
 use lib.ListN.{length}
 use Rattle.table.specs.Seek.{seek}
 use Rattle.table.proofs.Seek.{seek-here, seek-next, seek-end}
@@ -45,17 +47,4 @@ returns-3 c =
 
 pub first-unknown-spec : {M : Type 1} → statement M
 first-unknown-spec =
-    tie.close
-    (tie.spec
-    Inv-loop
-    μ-loop
-    loop-holds
-    (λ c. search needs)
-    (λ c. search needs)
-    (λ c. search needs)
-    returns
-    returns-2
-    (λ c. search needs)
-    (λ c. search needs)
-    loop-again
-    returns-3)
+    tie.close (all2 (all3 (tie.spec Inv-loop μ-loop loop-holds) (omega arith) returns returns-2) (omega arith) loop-again returns-3)

@@ -3,6 +3,7 @@ use mathlib.Core.Path.{sym, ap, _∙_}
 use native.Mathlib.Numerals.{add-one}
 use native.Mathlib.Omega.{arith}
 use borrow.Author.Needs.{needs}
+use Rattle.table.proofs.Needs.{all2}
 use lib.ListN.{length, length-set}
 use lib.Seq.{length-sets}
 use Rattle.format.proofs.Bytes.{put-none, put-stored}
@@ -35,4 +36,4 @@ returns-3 c =
 
 pub put-spec : {M : Type 1} → statement M
 put-spec =
-    tie.close (tie.spec returns (λ c. search needs) returns-2 (λ c. search needs) (λ c. search needs) store-requires same-length returns-3)
+    tie.close (all2 (tie.spec returns (λ c. search needs) returns-2) (omega arith) store-requires same-length returns-3)

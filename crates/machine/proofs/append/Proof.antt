@@ -1,5 +1,6 @@
 -- The verdict decides; what append makes of slot 0 is put back.
-use borrow.Author.Needs.{needs}
+use native.Mathlib.Omega.{arith}
+use Rattle.table.proofs.Needs.{all3, all11}
 use Rattle.write.specs.declared.Call.the-variants.{Append}
 use Rattle.machine.proofs.Callings.{call-refused, call-admitted, append-lifted}
 use Rattle.machine.proofs.append.Statement.{statement}
@@ -18,21 +19,4 @@ returns-2 c =
 
 pub append-spec : {M : Type 1} → statement M
 append-spec =
-    tie.close
-    (tie.spec
-    (λ c κs. search needs)
-    (λ c. search needs)
-    (λ c κs. search needs)
-    (λ c. search needs)
-    (λ c κs. search needs)
-    (λ c κs. search needs)
-    (λ c. search needs)
-    (λ c κs. search needs)
-    (λ c. search needs)
-    (λ c. search needs)
-    (λ c. search needs)
-    returns
-    (λ c. search needs)
-    (λ c. search needs)
-    (λ c. search needs)
-    returns-2)
+    tie.close (all3 (all11 tie.spec (omega arith) returns) (omega arith) returns-2)

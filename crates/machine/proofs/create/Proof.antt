@@ -1,6 +1,7 @@
 -- By the judgement.
 use mathlib.Core.Path.{sym, ap, _∙_}
-use borrow.Author.Needs.{needs}
+use native.Mathlib.Omega.{arith}
+use Rattle.table.proofs.Needs.{all6}
 use Rattle.read.specs.Calls.{createReply}
 use Rattle.read.proofs.Cases.{new-refused, new-judged}
 use Rattle.machine.proofs.create.Statement.{statement}
@@ -18,13 +19,4 @@ returns-2 c =
 
 pub create-spec : {M : Type 1} → statement M
 create-spec =
-    tie.close
-    (tie.spec
-    (λ c κs. search needs)
-    (λ c. search needs)
-    (λ c κs. search needs)
-    (λ c. search needs)
-    (λ c κs. search needs)
-    (λ c κs. search needs)
-    returns
-    returns-2)
+    tie.close (all6 tie.spec (omega arith) returns returns-2)

@@ -1,5 +1,6 @@
 -- Eight bytes, by the law of numbers that stand one behind the other.
-use borrow.Author.Needs.{needs}
+use native.Mathlib.Omega.{arith}
+use Rattle.table.proofs.Needs.{all5}
 use Rattle.format.proofs.Bytes.{number-joined}
 use Rattle.format.proofs.numbers.eight.Statement.{statement}
 use Rattle.format.proofs.numbers.eight.Tie as tie
@@ -11,4 +12,4 @@ returns c =
 
 pub eight-spec : {M : Type 1} → statement M
 eight-spec =
-    tie.close (tie.spec (λ c κs. search needs) (λ c. search needs) (λ c κs. search needs) (λ c. search needs) (λ c. search needs) returns)
+    tie.close (all5 tie.spec (omega arith) returns)

@@ -2,7 +2,9 @@
 use Prim.Native.Nat.{_+_, _-_, _≤_, _<_}
 use mathlib.Core.Path.{_≡_, refl, sym, _∙_}
 use native.Mathlib.Nat.{add-zero}
+use native.Mathlib.Omega.{arith}
 use borrow.Author.Needs.{needs}
+use Rattle.table.proofs.Needs.{all5}
 use lib.ListN.{length}
 use lib.Seq.{sets}
 use Rattle.format.specs.Schedule.{bytesOf}
@@ -33,4 +35,4 @@ returns c =
 
 pub store-spec : {M : Type 1} → statement M
 store-spec =
-    tie.close (tie.spec Inv-loop μ-loop loop-holds (λ c. search needs) (λ c. search needs) (λ c. search needs) (λ c. search needs) (λ c. search needs) loop-again (λ c. search needs) returns)
+    tie.close (all5 (tie.spec Inv-loop μ-loop loop-holds) (omega arith) loop-again (λ c. search needs) returns)

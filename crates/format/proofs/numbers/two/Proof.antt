@@ -1,6 +1,6 @@
 -- Two bytes, by the law of numbers that stand one behind the other.
 use native.Mathlib.Omega.{arith}
-use borrow.Author.Needs.{needs}
+use Rattle.table.proofs.Needs.{all5}
 use Rattle.format.proofs.Bytes.{number-joined}
 use Rattle.format.proofs.numbers.two.Statement.{statement}
 use Rattle.format.proofs.numbers.two.Tie as tie
@@ -12,4 +12,4 @@ returns c =
 
 pub two-spec : {M : Type 1} → statement M
 two-spec =
-    tie.close (tie.spec (λ c κs. search needs) (λ c. search needs) (λ c κs. search needs) (λ c. search needs) (λ c. search needs) returns)
+    tie.close (all5 tie.spec (omega arith) returns)

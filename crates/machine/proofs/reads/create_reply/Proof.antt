@@ -1,6 +1,8 @@
 -- By the verdict; where it admits, the slot is in range.
 use mathlib.Core.Path.{sym, _∙_}
+use native.Mathlib.Omega.{arith}
 use borrow.Author.Needs.{needs}
+use Rattle.table.proofs.Needs.{all3}
 use Rattle.read.proofs.Cases.{create-refused, create-made, create-room}
 use Rattle.machine.proofs.reads.create_reply.Statement.{statement}
 use Rattle.machine.proofs.reads.create_reply.Tie as tie
@@ -25,13 +27,4 @@ returns-2 c =
 
 pub create-reply-spec : {M : Type 1} → statement M
 create-reply-spec =
-    tie.close
-    (tie.spec
-    (λ c κs. search needs)
-    (λ c. search needs)
-    (λ c κs. search needs)
-    enum-told
-    (λ c κs. search needs)
-    with-slot-requires
-    returns
-    returns-2)
+    tie.close (all3 tie.spec (omega arith) enum-told (λ c κs. search needs) with-slot-requires returns returns-2)

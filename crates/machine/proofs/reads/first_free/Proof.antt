@@ -3,7 +3,9 @@ use Prim.Native.Nat.{ℕ, _≤_, _-_}
 use mathlib.Core.Bool.{Bool, false, not}
 use mathlib.Core.List.{List, []}
 use mathlib.Core.Path.{_≡_, refl, sym, ap, _∙_}
+use native.Mathlib.Omega.{arith}
 use borrow.Author.Needs.{needs}
+use Rattle.table.proofs.Needs.{all2}
 use lib.ListN.{getD}
 use Rattle.table.specs.Seek.{seek}
 use Rattle.table.proofs.Seek.{seek-here, seek-next, seek-end}
@@ -45,15 +47,4 @@ returns-2 c =
 
 pub first-free-spec : {M : Type 1} → statement M
 first-free-spec =
-    tie.close
-    (tie.spec
-    Inv-loop
-    μ-loop
-    loop-holds
-    (λ c. search needs)
-    (λ c. search needs)
-    returns
-    (λ c. search needs)
-    (λ c. search needs)
-    loop-again
-    returns-2)
+    tie.close (all2 (all2 (tie.spec Inv-loop μ-loop loop-holds) (omega arith) returns) (omega arith) loop-again returns-2)

@@ -1,6 +1,8 @@
 -- By whether the slot's number is in range.
 use mathlib.Core.Path.{sym, _∙_}
+use native.Mathlib.Omega.{arith}
 use borrow.Author.Needs.{needs}
+use Rattle.table.proofs.Needs.{all2}
 use Rattle.read.specs.Machine.{slotCount}
 use Rattle.read.proofs.Cases.{reply-past, reply-in}
 use Rattle.machine.proofs.reads.handle_reply.Statement.{statement}
@@ -24,11 +26,4 @@ returns-2 c =
 
 pub handle-reply-spec : {M : Type 1} → statement M
 handle-reply-spec =
-    tie.close
-    (tie.spec
-    (λ c κs. search needs)
-    returns
-    (λ c κs. search needs)
-    (λ c κs. search needs)
-    with-slot-requires
-    returns-2)
+    tie.close (all2 (tie.spec (λ c κs. search needs) returns) (omega arith) with-slot-requires returns-2)

@@ -1,6 +1,7 @@
 -- By the judgement.
 use mathlib.Core.Path.{sym, _∙_}
-use borrow.Author.Needs.{needs}
+use native.Mathlib.Omega.{arith}
+use Rattle.table.proofs.Needs.{all5}
 use Rattle.read.proofs.Cases.{call-refused, call-judged}
 use Rattle.machine.proofs.reads.on_handle.Statement.{statement}
 use Rattle.machine.proofs.reads.on_handle.Tie as tie
@@ -17,12 +18,4 @@ returns-2 c =
 
 pub on-handle-spec : {M : Type 1} → statement M
 on-handle-spec =
-    tie.close
-    (tie.spec
-    (λ c κs. search needs)
-    (λ c. search needs)
-    (λ c κs. search needs)
-    (λ c. search needs)
-    (λ c κs. search needs)
-    returns
-    returns-2)
+    tie.close (all5 tie.spec (omega arith) returns returns-2)

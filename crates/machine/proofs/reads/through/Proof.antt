@@ -1,6 +1,7 @@
 -- By the judgement.
 use mathlib.Core.Path.{sym, _∙_}
-use borrow.Author.Needs.{needs}
+use native.Mathlib.Omega.{arith}
+use Rattle.table.proofs.Needs.{all7}
 use Rattle.read.proofs.Cases.{through-refused, through-judged}
 use Rattle.machine.proofs.reads.through.Statement.{statement}
 use Rattle.machine.proofs.reads.through.Tie as tie
@@ -17,14 +18,4 @@ returns-2 c =
 
 pub through-spec : {M : Type 1} → statement M
 through-spec =
-    tie.close
-    (tie.spec
-    (λ c κs. search needs)
-    (λ c. search needs)
-    (λ c. search needs)
-    (λ c. search needs)
-    (λ c. search needs)
-    (λ c. search needs)
-    (λ c κs. search needs)
-    returns
-    returns-2)
+    tie.close (all7 tie.spec (omega arith) returns returns-2)

@@ -1,6 +1,7 @@
 -- By the tests in their order.
 use mathlib.Core.Path.{sym, ap, _∙_}
-use borrow.Author.Needs.{needs}
+use native.Mathlib.Omega.{arith}
+use Rattle.table.proofs.Needs.{all3, all8}
 use lib.Dec.{eqb}
 use Rattle.read.specs.declared.Handle.the-variants.{LookUp}
 use Rattle.read.specs.Machine.{slotCount}
@@ -29,19 +30,4 @@ returns-3 c =
 
 pub through-guard-spec : {M : Type 1} → statement M
 through-guard-spec =
-    tie.close
-    (tie.spec
-    (λ c. search needs)
-    (λ c. search needs)
-    (λ c. search needs)
-    returns
-    (λ c κs. search needs)
-    (λ c κs. search needs)
-    (λ c. search needs)
-    (λ c. search needs)
-    (λ c. search needs)
-    (λ c. search needs)
-    (λ c. search needs)
-    (λ c κs. search needs)
-    returns-2
-    returns-3)
+    tie.close (all8 (all3 tie.spec (omega arith) returns) (omega arith) returns-2 returns-3)

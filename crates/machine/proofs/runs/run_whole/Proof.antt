@@ -4,6 +4,7 @@ use Prim.Native.Nat.{_-_}
 use mathlib.Core.Path.{refl, sym, _∙_}
 use native.Mathlib.Omega.{arith}
 use borrow.Author.Needs.{needs}
+use Rattle.table.proofs.Needs.{all9}
 use lib.ListN.{getD, length-map}
 use Rattle.read.specs.Machine.{slotTotal}
 use Rattle.write.specs.Runs.{runOn}
@@ -113,49 +114,4 @@ returns-2 c =
 
 pub run-whole-spec : {M : Type 1} → statement M
 run-whole-spec =
-    tie.close
-    (tie.spec
-    Inv-loop
-    μ-loop
-    Inv-steps
-    μ-steps
-    steps-holds
-    (λ c κs. search needs)
-    place-requires
-    (λ c κs. search needs)
-    loop-holds
-    (λ c. search needs)
-    (λ c. search needs)
-    (λ c. search needs)
-    (λ c. search needs)
-    (λ c κs. search needs)
-    (λ c κs. search needs)
-    (λ c κs. search needs)
-    (λ c κs. search needs)
-    (λ c. search needs)
-    add-n
-    (λ c. search needs)
-    loop-again
-    (λ c κs. search needs)
-    steps-less
-    steps-again
-    (λ c. search needs)
-    (λ c. search needs)
-    (λ c. search needs)
-    (λ c. search needs)
-    (λ c κs. search needs)
-    (λ c. search needs)
-    (λ c. search needs)
-    (λ c. search needs)
-    (λ c. search needs)
-    add-n-2
-    steps-less-2
-    steps-again-2
-    same-length
-    same-length-2
-    same-length-3
-    returns
-    same-length-4
-    same-length-5
-    same-length-6
-    returns-2)
+    tie.close (all9 (all9 (tie.spec Inv-loop μ-loop Inv-steps μ-steps steps-holds (λ c κs. search needs) place-requires (λ c κs. search needs) loop-holds) (omega arith) add-n (λ c. search needs) loop-again (λ c κs. search needs) steps-less steps-again) (omega arith) add-n-2 steps-less-2 steps-again-2 same-length same-length-2 same-length-3 returns same-length-4 same-length-5 same-length-6 returns-2)

@@ -1,6 +1,8 @@
 -- By the row of the phase in which the scan began.
 use mathlib.Core.Path.{_∙_}
+use native.Mathlib.Omega.{arith}
 use borrow.Author.Needs.{needs}
+use Rattle.table.proofs.Needs.{all2}
 use Rattle.machine.proofs.Rows.{scanning-poll, scanning-last, scanning-none}
 use Rattle.machine.proofs.runs.scanning_at.Statement.{statement}
 use Rattle.machine.proofs.runs.scanning_at.Tie as tie
@@ -22,5 +24,4 @@ returns-3 c =
 
 pub scanning-at-spec : {M : Type 1} → statement M
 scanning-at-spec =
-    tie.close
-    (tie.spec (λ c κs. search needs) (λ c κs. search needs) returns (λ c κs. search needs) returns-2 returns-3)
+    tie.close (all2 tie.spec (omega arith) returns (λ c κs. search needs) returns-2 returns-3)

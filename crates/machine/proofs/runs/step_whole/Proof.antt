@@ -1,5 +1,7 @@
 -- The slot that is taken out is the rule's.
+use native.Mathlib.Omega.{arith}
 use borrow.Author.Needs.{needs}
+use Rattle.table.proofs.Needs.{all8}
 use Rattle.write.proofs.Turns.{step-lifted}
 use Rattle.machine.proofs.runs.step_whole.Statement.{statement}
 use Rattle.machine.proofs.runs.step_whole.Tie as tie
@@ -13,15 +15,4 @@ returns c =
 
 pub step-whole-spec : {M : Type 1} → statement M
 step-whole-spec =
-    tie.close
-    (tie.spec
-    (λ c κs. search needs)
-    (λ c κs. search needs)
-    (λ c. search needs)
-    (λ c. search needs)
-    (λ c κs. search needs)
-    (λ c κs. search needs)
-    (λ c. search needs)
-    (λ c. search needs)
-    (λ c. search needs)
-    returns)
+    tie.close (all8 (tie.spec (λ c κs. search needs)) (omega arith) returns)

@@ -1,6 +1,8 @@
 -- The arm of a try.
 use mathlib.Core.Path.{sym, ap, _∙_}
+use native.Mathlib.Omega.{arith}
 use borrow.Author.Needs.{needs}
+use Rattle.table.proofs.Needs.{all5}
 use Rattle.read.specs.declared.Job.{Job}
 use Rattle.write.specs.Scans.{stopControl}
 use Rattle.machine.proofs.runs.stopped.Statement.{statement}
@@ -11,14 +13,4 @@ returns-2 c = c .at .ensures ∙ sym (ap (λ (j : Job). stopControl j (c .before
 
 pub stopped-spec : {M : Type 1} → statement M
 stopped-spec =
-    tie.close
-    (tie.spec
-    (λ c. search needs)
-    (λ c. search needs)
-    (λ c κs. search needs)
-    (λ c. search needs)
-    (λ c. search needs)
-    (λ c. search needs)
-    returns-2
-    (λ c. search needs)
-    (λ c. search needs))
+    tie.close (all5 tie.spec (omega arith) (λ c. search needs) returns-2 (λ c. search needs) (λ c. search needs))

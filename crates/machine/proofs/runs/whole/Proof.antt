@@ -1,7 +1,9 @@
 -- By which of the two it is.
 use mathlib.Core.Path.{sym, ap, _∙_}
 use mathlib.Core.Bool.{Bool}
+use native.Mathlib.Omega.{arith}
 use borrow.Author.Needs.{needs}
+use Rattle.table.proofs.Needs.{all3}
 use Rattle.write.specs.Machine.{goingRule}
 use Rattle.machine.proofs.runs.whole.Statement.{statement}
 use Rattle.machine.proofs.runs.whole.Tie as tie
@@ -18,15 +20,4 @@ returns-2 c =
 
 pub whole-spec : {M : Type 1} → statement M
 whole-spec =
-    tie.close
-    (tie.spec
-    (λ c κs. search needs)
-    (λ c. search needs)
-    (λ c. search needs)
-    (λ c. search needs)
-    returns
-    (λ c κs. search needs)
-    (λ c. search needs)
-    (λ c. search needs)
-    (λ c. search needs)
-    returns-2)
+    tie.close (all3 (all3 (tie.spec (λ c κs. search needs)) (omega arith) returns (λ c κs. search needs)) (omega arith) returns-2)

@@ -1,7 +1,9 @@
 -- The table of admissions decides.
 use Prim.Native.Nat.{ℕ}
 use mathlib.Core.Path.{ap, _∙_}
+use native.Mathlib.Omega.{arith}
 use borrow.Author.Needs.{needs}
+use Rattle.table.proofs.Needs.{all3, all5}
 use Rattle.write.specs.Begins.{stepSigns}
 use Rattle.write.specs.Machine.{goingColumn, goingRule}
 use Rattle.machine.proofs.Callings.{going-refused, going-admitted}
@@ -25,16 +27,4 @@ returns-2 c =
 
 pub admitted-spec : {M : Type 1} → statement M
 admitted-spec =
-    tie.close
-    (tie.spec
-    (λ c κs. search needs)
-    (λ c κs. search needs)
-    (λ c. search needs)
-    (λ c κs. search needs)
-    (λ c. search needs)
-    (λ c κs. search needs)
-    (λ c. search needs)
-    (λ c. search needs)
-    (λ c. search needs)
-    returns
-    returns-2)
+    tie.close (all5 (all3 tie.spec (omega arith) (λ c κs. search needs)) (omega arith) returns returns-2)

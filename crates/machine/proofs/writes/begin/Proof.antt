@@ -1,5 +1,6 @@
 -- The verdict decides; what the beginning makes of slot 0 is put back.
-use borrow.Author.Needs.{needs}
+use native.Mathlib.Omega.{arith}
+use Rattle.table.proofs.Needs.{all8}
 use Rattle.write.specs.declared.Call.the-variants.{Open}
 use Rattle.machine.proofs.Callings.{call-refused, call-admitted, open-lifted}
 use Rattle.machine.proofs.writes.begin.Statement.{statement}
@@ -18,15 +19,4 @@ returns-2 c =
 
 pub begin-spec : {M : Type 1} → statement M
 begin-spec =
-    tie.close
-    (tie.spec
-    (λ c κs. search needs)
-    (λ c. search needs)
-    (λ c κs. search needs)
-    (λ c. search needs)
-    (λ c κs. search needs)
-    (λ c κs. search needs)
-    (λ c. search needs)
-    (λ c κs. search needs)
-    returns
-    returns-2)
+    tie.close (all8 tie.spec (omega arith) returns returns-2)

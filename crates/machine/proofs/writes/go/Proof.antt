@@ -1,6 +1,8 @@
 -- The verdict decides; a state that is admitted has a whole control part.
 use mathlib.Core.Path.{sym, _∙_}
+use native.Mathlib.Omega.{arith}
 use borrow.Author.Needs.{needs}
+use Rattle.table.proofs.Needs.{all3, all5}
 use Rattle.write.specs.Machine.{goes}
 use Rattle.machine.proofs.Callings.{judged-whole-control, call-refused, call-admitted, goes-called}
 use Rattle.machine.proofs.writes.go.Statement.{statement}
@@ -27,18 +29,4 @@ returns-2 c =
 
 pub go-spec : {M : Type 1} → statement M
 go-spec =
-    tie.close
-    (tie.spec
-    (λ c κs. search needs)
-    enum-told
-    admitted-requires
-    (λ c. search needs)
-    (λ c κs. search needs)
-    (λ c. search needs)
-    (λ c. search needs)
-    (λ c. search needs)
-    returns
-    (λ c. search needs)
-    (λ c. search needs)
-    (λ c. search needs)
-    returns-2)
+    tie.close (all3 (all5 (tie.spec (λ c κs. search needs) enum-told admitted-requires) (omega arith) returns) (omega arith) returns-2)
