@@ -13,6 +13,7 @@ use Rattle.play.proofs.Lengths.{part-length, part-written, part-bytes, 
 use Rattle.format.proofs.Records.{flawless-within}
 use Rattle.play.proofs.Rule.{play-flawed, play-short, play-made}
 use borrow.Author.Needs.{needs}
+use Rattle.table.proofs.Needs.{all2, all4}
 use borrow.Rule.Slice.PartAt.{part-to-end}
 use Rattle.play.proofs.lrt_play.Statement.{statement}
 use Rattle.play.proofs.lrt_play.Tie as tie
@@ -63,20 +64,4 @@ returns-3 c =
 
 pub lrt-play-spec : {M : Type 1} → statement M
 lrt-play-spec =
-    tie.close
-    (tie.spec
-    (λ c κs. search needs)
-    returns
-    (λ c κs. search needs)
-    (λ c. search needs)
-    returns-2
-    (λ c κs. search needs)
-    sub-play-on
-    part-play-on-start
-    (λ c. search needs)
-    (λ c. search needs)
-    (λ c. search needs)
-    (λ c. search needs)
-    play-on-requires
-    (λ c. search needs)
-    returns-3)
+    tie.close (all4 (all2 (tie.spec (λ c κs. search needs) returns) (omega arith) returns-2 (λ c κs. search needs) sub-play-on part-play-on-start) (omega arith) play-on-requires (λ c. search needs) returns-3)

@@ -6,6 +6,7 @@ use mathlib.Core.Path.{_≡_, sym, ap, subst, _∙_}
 use mathlib.Core.Logic.{⊎-elim}
 use native.Mathlib.Omega.{arith}
 use borrow.Author.Needs.{needs}
+use Rattle.table.proofs.Needs.{all2, all4}
 use lib.ListN.{length, getD, length-map}
 use Rattle.read.specs.declared.Slot.{Slot}
 use Rattle.read.specs.Machine.{slotTotal, slotCount, noSlot, place}
@@ -267,66 +268,4 @@ array-set-from-slots-2 c = within-below (c .before .before .before .before .befo
 
 pub play-on-spec : {M : Type 1} → statement M
 play-on-spec =
-    tie.close
-    (tie.spec
-    Inv-loop2
-    μ-loop2
-    Inv-loop3
-    μ-loop3
-    Inv-loop
-    μ-loop
-    (λ c. search needs)
-    loop-holds
-    (λ c κs. search needs)
-    (λ c κs. search needs)
-    (λ c κs. search needs)
-    (λ c κs. search needs)
-    mul-facing
-    array-copy-out-facing
-    mul-facing-2
-    array-read-facing
-    (λ c κs. search needs)
-    loop2-holds
-    mul-advance
-    array-copy-out-advance
-    mul-advance-2
-    array-read-advance
-    (λ c κs. search needs)
-    mul-own
-    array-copy-out-own
-    mul-slots
-    array-set-from-slots
-    mul-snaps
-    array-write-snaps
-    (λ c κs. search needs)
-    mul-went-on
-    array-copy-out-went-on
-    mul-went-on-2
-    array-read-went-on
-    went-on-requires
-    loop2-less
-    loop2-again
-    (λ c κs. search needs)
-    loop3-holds
-    mul-passes
-    array-copy-out-passes
-    (λ c κs. search needs)
-    add-i
-    loop3-less
-    loop3-again
-    mul-turn
-    array-copy-out-turn
-    (λ c κs. search needs)
-    mul-slots-2
-    array-set-from-slots-2
-    (λ c κs. search needs)
-    (λ c κs. search needs)
-    add-from
-    add-to
-    loop-less
-    loop-again
-    same-length
-    same-length-2
-    same-length-3
-    same-length-4
-    returns)
+    tie.close (all2 (all4 (tie.spec Inv-loop2 μ-loop2 Inv-loop3 μ-loop3 Inv-loop μ-loop (λ c. search needs) loop-holds) (omega arith) mul-facing array-copy-out-facing mul-facing-2 array-read-facing (λ c κs. search needs) loop2-holds mul-advance array-copy-out-advance mul-advance-2 array-read-advance (λ c κs. search needs) mul-own array-copy-out-own mul-slots array-set-from-slots mul-snaps array-write-snaps (λ c κs. search needs) mul-went-on array-copy-out-went-on mul-went-on-2 array-read-went-on went-on-requires loop2-less loop2-again (λ c κs. search needs) loop3-holds mul-passes array-copy-out-passes (λ c κs. search needs) add-i loop3-less loop3-again mul-turn array-copy-out-turn (λ c κs. search needs) mul-slots-2 array-set-from-slots-2) (omega arith) add-from add-to loop-less loop-again same-length same-length-2 same-length-3 same-length-4 returns)

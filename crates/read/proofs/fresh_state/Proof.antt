@@ -1,5 +1,6 @@
 -- Slot 0 is a new handle's, and the others are free.
-use borrow.Author.Needs.{needs}
+use native.Mathlib.Omega.{arith}
+use Rattle.table.proofs.Needs.{all3}
 use Rattle.read.specs.Machine.{slotCount}
 use Rattle.read.proofs.fresh_state.Statement.{statement}
 use Rattle.read.proofs.fresh_state.Tie as tie
@@ -10,4 +11,4 @@ returns c = rw (c .new-slot .ensures, c .before .no-slot .ensures)
 
 pub fresh-state-spec : {M : Type 1} → statement M
 fresh-state-spec =
-    tie.close (tie.spec (λ c κs. search needs) (λ c κs. search needs) (λ c. search needs) returns)
+    tie.close (all3 tie.spec (omega arith) returns)

@@ -1,6 +1,8 @@
 -- What owning the state gives (`good`) says that its array has all slots, so a read within is the rule's.
 use mathlib.Core.Path.{_≡_, sym, _∙_}
+use native.Mathlib.Omega.{arith}
 use borrow.Author.Needs.{needs}
+use Rattle.table.proofs.Needs.{all2}
 use lib.ListN.{length, length-map, List·getD-eq-default}
 use Rattle.table.proofs.Lists.{getD-within}
 use Rattle.read.specs.Machine.{slotTotal, noSlot}
@@ -21,4 +23,4 @@ returns-2 c =
 
 pub slot-at-spec : {M : Type 1} → statement M
 slot-at-spec =
-    tie.close (tie.spec (λ c κs. search needs) returns (λ c. search needs) (λ c. search needs) returns-2)
+    tie.close (all2 (tie.spec (λ c κs. search needs) returns) (omega arith) returns-2)

@@ -4,7 +4,9 @@ use borrow.Author.Tests.{le-leb, lt-leb}
 use Rattle.read.specs.declared.Made.{Made}
 use Rattle.read.specs.Machine.{slotTotal}
 use Rattle.play.specs.Turns.{movedAs, touched}
+use native.Mathlib.Omega.{arith}
 use borrow.Author.Needs.{needs}
+use Rattle.table.proofs.Needs.{all2}
 use Rattle.play.proofs.turns.touch.Statement.{statement}
 use Rattle.play.proofs.turns.touch.Tie as tie
 
@@ -22,4 +24,4 @@ returns-2 c =
 
 pub touch-spec : {M : Type 1} → statement M
 touch-spec =
-    tie.close (tie.spec (λ c κs. search needs) returns (λ c κs. search needs) (λ c κs. search needs) returns-2)
+    tie.close (all2 (tie.spec (λ c κs. search needs) returns) (omega arith) returns-2)

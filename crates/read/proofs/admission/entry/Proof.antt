@@ -6,6 +6,7 @@ use mathlib.Core.List.{List, [], _∷_}
 use mathlib.Core.Bool.{Bool, true}
 use native.Mathlib.Omega.{arith}
 use borrow.Author.Needs.{needs}
+use Rattle.table.proofs.Needs.{all4}
 use borrow.Author.Tests.{eqb-true}
 use lib.Dec.{eqb, lit<}
 use lib.ListN.{length, getD, List·getD-eq-default}
@@ -119,15 +120,4 @@ returns-2 c =
 
 pub entry-spec : {M : Type 1} → statement M
 entry-spec =
-    tie.close
-    (tie.spec
-    (λ c κs. search needs)
-    mul-digits
-    array-read-digits
-    (λ c. search needs)
-    (λ c. search needs)
-    (λ c. search needs)
-    (λ c. search needs)
-    returns
-    (λ c. search needs)
-    returns-2)
+    tie.close (all4 (tie.spec (λ c κs. search needs) mul-digits array-read-digits) (omega arith) returns (λ c. search needs) returns-2)

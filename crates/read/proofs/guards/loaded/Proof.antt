@@ -1,6 +1,8 @@
 -- By whether the pointer is null.
 use mathlib.Core.Path.{sym}
+use native.Mathlib.Omega.{arith}
 use borrow.Author.Needs.{needs}
+use Rattle.table.proofs.Needs.{all2}
 use Rattle.read.proofs.Cases.{loaded-null, loaded-side}
 use Rattle.read.proofs.guards.loaded.Statement.{statement}
 use Rattle.read.proofs.guards.loaded.Tie as tie
@@ -17,4 +19,4 @@ returns-2 c =
 
 pub loaded-spec : {M : Type 1} → statement M
 loaded-spec =
-    tie.close (tie.spec (λ c κs. search needs) returns (λ c κs. search needs) (λ c κs. search needs) returns-2)
+    tie.close (all2 (tie.spec (λ c κs. search needs) returns) (omega arith) returns-2)
