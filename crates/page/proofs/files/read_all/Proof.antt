@@ -1,7 +1,8 @@
 -- `files::read_all` is safe and ends: each turn but the last reads a byte or more, and `count` keeps that within what is left of the buffer.
 use mathlib.Core.Path.{_≡_}
 use Prim.Native.Nat.{_-_, _≤_}
-use borrow.Author.Needs.{needs}
+use native.Mathlib.Omega.{arith}
+use Rattle.table.proofs.Needs.{all15}
 use lib.ListN.{length}
 use Rattle.page.proofs.files.read_all.Statement.{statement}
 use Rattle.page.proofs.files.read_all.Tie as tie
@@ -14,22 +15,4 @@ abbrev μ-loop : tie.MeasureT-loop
 
 pub read-all-spec : {M : Type 1} → statement M
 read-all-spec =
-    tie.close
-    (tie.spec
-    Inv-loop
-    μ-loop
-    (λ c. search needs)
-    (λ c. search needs)
-    (λ c. search needs)
-    (λ c. search needs)
-    (λ c κs. search needs)
-    (λ c. search needs)
-    (λ c. search needs)
-    (λ c κs. search needs)
-    (λ c. search needs)
-    (λ c. search needs)
-    (λ c. search needs)
-    (λ c. search needs)
-    (λ c. search needs)
-    (λ c. search needs)
-    (λ c. search needs))
+    tie.close (all15 (tie.spec Inv-loop μ-loop) (omega arith))

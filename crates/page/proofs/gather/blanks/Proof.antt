@@ -1,6 +1,7 @@
 -- `gather::blanks` is safe, ends, and stays within the page: the column comes closer at each turn.
 use Prim.Native.Nat.{_-_}
-use borrow.Author.Needs.{needs}
+use native.Mathlib.Omega.{arith}
+use Rattle.table.proofs.Needs.{all7}
 use Rattle.page.specs.Page.{OnPage}
 use Rattle.page.proofs.gather.blanks.Statement.{statement}
 use Rattle.page.proofs.gather.blanks.Tie as tie
@@ -13,14 +14,4 @@ abbrev μ-loop : tie.MeasureT-loop
 
 pub blanks-spec : {M : Type 1} → statement M
 blanks-spec =
-    tie.close
-    (tie.spec
-    Inv-loop
-    μ-loop
-    (λ c. search needs)
-    (λ c. search needs)
-    (λ c. search needs)
-    (λ c. search needs)
-    (λ c. search needs)
-    (λ c. search needs)
-    (λ c. search needs))
+    tie.close (all7 (tie.spec Inv-loop μ-loop) (omega arith))

@@ -1,6 +1,7 @@
 -- `gather::text` is safe, ends, and stays within the page: the turns are the text's bytes.
 use Prim.Native.Nat.{_-_, _≤_}
-use borrow.Author.Needs.{needs}
+use native.Mathlib.Omega.{arith}
+use Rattle.table.proofs.Needs.{all7}
 use lib.ListN.{length}
 use Rattle.page.specs.Page.{OnPage}
 use Rattle.page.proofs.gather.text.Statement.{statement}
@@ -14,14 +15,4 @@ abbrev μ-loop : tie.MeasureT-loop
 
 pub text-spec : {M : Type 1} → statement M
 text-spec =
-    tie.close
-    (tie.spec
-    Inv-loop
-    μ-loop
-    (λ c. search needs)
-    (λ c. search needs)
-    (λ c κs. search needs)
-    (λ c. search needs)
-    (λ c. search needs)
-    (λ c. search needs)
-    (λ c. search needs))
+    tie.close (all7 (tie.spec Inv-loop μ-loop) (omega arith))

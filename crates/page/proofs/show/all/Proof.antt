@@ -1,6 +1,7 @@
 -- `show::all` is safe and ends: `line` keeps `n` within the page, and the turns are the records that a schedule may have.
 use Prim.Native.Nat.{_-_, _≤_}
-use borrow.Author.Needs.{needs}
+use native.Mathlib.Omega.{arith}
+use Rattle.table.proofs.Needs.{all8, all9}
 use Rattle.page.specs.Page.{mostRecords, OnPage}
 use Rattle.page.proofs.show.all.Statement.{statement}
 use Rattle.page.proofs.show.all.Tie as tie
@@ -13,24 +14,4 @@ abbrev μ-loop : tie.MeasureT-loop
 
 pub all-spec : {M : Type 1} → statement M
 all-spec =
-    tie.close
-    (tie.spec
-    Inv-loop
-    μ-loop
-    (λ c. search needs)
-    (λ c. search needs)
-    (λ c κs. search needs)
-    (λ c. search needs)
-    (λ c. search needs)
-    (λ c κs. search needs)
-    (λ c. search needs)
-    (λ c κs. search needs)
-    (λ c. search needs)
-    (λ c κs. search needs)
-    (λ c. search needs)
-    (λ c. search needs)
-    (λ c. search needs)
-    (λ c. search needs)
-    (λ c. search needs)
-    (λ c κs. search needs)
-    (λ c. search needs))
+    tie.close (all8 (all9 (tie.spec Inv-loop μ-loop) (omega arith)) (omega arith))

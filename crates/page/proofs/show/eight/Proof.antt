@@ -1,6 +1,7 @@
 -- `show::eight` is safe and ends: `i` falls from 8.
 use Prim.Native.Nat.{_≤_}
-use borrow.Author.Needs.{needs}
+use native.Mathlib.Omega.{arith}
+use Rattle.table.proofs.Needs.{all6}
 use Rattle.page.proofs.show.eight.Statement.{statement}
 use Rattle.page.proofs.show.eight.Tie as tie
 
@@ -12,5 +13,4 @@ abbrev μ-loop : tie.MeasureT-loop
 
 pub eight-spec : {M : Type 1} → statement M
 eight-spec =
-    tie.close
-    (tie.spec Inv-loop μ-loop (λ c. search needs) (λ c. search needs) (λ c κs. search needs) (λ c. search needs) (λ c. search needs) (λ c. search needs))
+    tie.close (all6 (tie.spec Inv-loop μ-loop) (omega arith))
