@@ -84,6 +84,11 @@ module _ (a : Answer) (b : Bool) (xs : List Sign) {v : Verdict} where
   unfolding smallest
   first-on e h = h ∙ ap (λ (b : Bool). given b a (smallest xs)) (sym e)
 
+-- one before those that were judged
+pub push : (a : Answer) (b : Bool) (xs : List Sign) {x : Bool} {v r : Verdict} → r ≡ given x a v → x ≡ b → v ≡ smallest xs → r ≡ smallest (sign a b ∷ xs)
+unfolding smallest
+push a b xs e q h = e ∙ (λ i. given (q i) a (h i))
+
 pub first-none : {v : Verdict} → v ≡ Admitted → v ≡ smallest []
 unfolding smallest
 first-none h = h
