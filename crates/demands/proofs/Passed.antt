@@ -10,7 +10,7 @@ use Rattle.read.specs.declared.Verdict.the-variants.{Admitted}
 use Rattle.read.specs.Machine.{anyOpen, isDue}
 use Rattle.read.specs.Admission.{handleNumber, guardNamed, column, entry}
 use Rattle.read.specs.Handles.{smallest, mistimed, leavesGuards, lacksGuard, lacksRoom, handleSigns}
-use Rattle.read.proofs.Verdicts.{admitted-unopposed}
+use Rattle.read.proofs.Verdicts.{silent}
 use Rattle.write.specs.Begins.{writerSigns}
 
 -- a call on a handle
@@ -23,8 +23,8 @@ pub record OnPassed (c : Control) (own : Bool) (s : Slot) (h : Handle) : Type 0 
 
 pub on-passed : (c : Control) (own : Bool) (s : Slot) (h : Handle) → smallest (handleSigns c own s h) ≡ Admitted → OnPassed c own s h
 on-passed c own s h v =
-    let u = admitted-unopposed (handleSigns c own s h) v in
-    record { slot = u .0; timely = u .1 .0; guards = u .1 .1 .1 .0; guard = u .1 .1 .1 .1 .0; fewer = u .1 .1 .1 .1 .1 .0 }
+    let signs = handleSigns c own s h in
+    record { slot = silent 4 signs v; timely = silent 6 signs v; guards = silent 8 signs v; guard = silent 9 signs v; fewer = silent 10 signs v }
 
 -- append and the beginnings
 pub record WritePassed (column : ℕ) (unlawful full : Bool) (c : Control) (s : Slot) : Type 0 where
@@ -36,5 +36,5 @@ pub record WritePassed (column : ℕ) (unlawful full : Bool) (c : Control) (s : 
 pub write-passed : (column : ℕ) (unlawful full : Bool) (c : Control) (s : Slot) → smallest (writerSigns column unlawful full c s) ≡ Admitted →
     WritePassed column unlawful full c s
 write-passed column unlawful full c s v =
-    let u = admitted-unopposed (writerSigns column unlawful full c s) v in
-    record { operation = u .1 .0; timely = u .1 .1 .0; guards = u .1 .1 .1 .0; log = u .1 .1 .1 .1 .0 }
+    let signs = writerSigns column unlawful full c s in
+    record { operation = silent 5 signs v; timely = silent 6 signs v; guards = silent 8 signs v; log = silent 11 signs v }

@@ -26,7 +26,7 @@ use Rattle.read.specs.declared.Reply.{Reply}
 use Rattle.read.specs.Machine.{withReading, slotCount, newSlot, fresh, logRoom, logWords, guardCount, shut, isOpen, standsRight, putGuard, firstGuard, anyOpen, wholeControl, sized, glanced, judged, firstUnlawful}
 use Rattle.read.specs.Handles.{copyOf, guardedCopy, bumped, withDue, guarded, loaded, entered, released, smallest, handleSigns, handled, handleOn}
 use Rattle.read.specs.Calls.{slotAt, withSlot, refusal, lent, firstFree, createSigns, handleReply, handleRule, createReply, createRule, throughGuard, throughRule, startRule}
-use Rattle.read.proofs.Verdicts.{refused-not, admitted-unopposed}
+use Rattle.read.proofs.Verdicts.{refused-not, silent}
 
 -- a state by its parts
 abbrev pub stateOf : Control → List Slot → List ℕ → State
@@ -215,7 +215,7 @@ module _ (i : ℕ) (st : State) where
 
   -- where it is made, the slot is there
   pub create-room : smallest (createSigns (st .control) i) ≡ Admitted → i < slotCount
-  create-room e = leb-false slotCount i (admitted-unopposed (createSigns (st .control) i) e .1 .0)
+  create-room e = leb-false slotCount i (silent 12 (createSigns (st .control) i) e)
 
 module _ (l r g : List ℕ) (st : State) where
   pub new-refused : (a : Answer) → judged (st .control) l r g ≡ Refused a → createRule l r g st ≡ refusal a st

@@ -4,7 +4,7 @@ use mathlib.Core.Path.{_≡_, refl, sym, ap, subst, _∙_}
 use mathlib.Core.Bool.{Bool, true, false, _&&_}
 use mathlib.Core.List.{List, [], _∷_}
 use native.Mathlib.Omega.{arith}
-use lib.Dec.{leb}
+use lib.Dec.{eqb, leb}
 use borrow.Author.Tests.{leb-true}
 use Rattle.table.specs.Answers.{number, refusing}
 use Rattle.table.specs.declared.Answer.{Answer}
@@ -21,19 +21,25 @@ given b a v = elim b [ true ↦ Refused a | false ↦ v ]
 
 -- ---- admitted: none applies
 
-abbrev pub Unopposed : List Sign → Type 0
-Unopposed [] = Unit {0}
-Unopposed (x ∷ xs) = (x .applies ≡ false) × Unopposed xs
+-- the sign of a number; where a call has none, it does not apply
+abbrev pub speaks : ℕ → List Sign → Bool
+speaks n [] = false
+speaks n (x ∷ xs) = elim (eqb (number (x .answer)) n) [ true ↦ x .applies | false ↦ speaks n xs ]
 
 passed : (b : Bool) (a : Answer) (v : Verdict) → given b a v ≡ Admitted → (b ≡ false) × (v ≡ Admitted)
 passed true a v e = refused-not e
 passed false a v e = (refl, e)
 
-pub admitted-unopposed : (xs : List Sign) → smallest xs ≡ Admitted → Unopposed xs
+silent-by : (b : Bool) {x y : Bool} → x ≡ false → y ≡ false → elim b [ true ↦ x | false ↦ y ] ≡ false
+silent-by true p q = p
+silent-by false p q = q
+
+-- of a call that is admitted, by number: so one sign more moves no other
+pub silent : (n : ℕ) (xs : List Sign) → smallest xs ≡ Admitted → speaks n xs ≡ false
 unfolding smallest
-admitted-unopposed [] e = tt
-admitted-unopposed (x ∷ xs) e =
-    let p = passed (x .applies) (x .answer) (smallest xs) e in (p .0, admitted-unopposed xs (p .1))
+silent n [] e = refl
+silent n (x ∷ xs) e =
+    let p = passed (x .applies) (x .answer) (smallest xs) e in silent-by (eqb (number (x .answer)) n) (p .0) (silent n xs (p .1))
 
 -- ---- refused: by 3 to 12, where all that may be given are among these
 
@@ -77,6 +83,11 @@ module _ (a : Answer) (b : Bool) (xs : List Sign) {v : Verdict} where
   pub first-on : b ≡ false → v ≡ smallest xs → v ≡ smallest (sign a b ∷ xs)
   unfolding smallest
   first-on e h = h ∙ ap (λ (b : Bool). given b a (smallest xs)) (sym e)
+
+-- one before those that were judged
+pub push : (a : Answer) (b : Bool) (xs : List Sign) {x : Bool} {v r : Verdict} → r ≡ given x a v → x ≡ b → v ≡ smallest xs → r ≡ smallest (sign a b ∷ xs)
+unfolding smallest
+push a b xs e q h = e ∙ (λ i. given (q i) a (h i))
 
 pub first-none : {v : Verdict} → v ≡ Admitted → v ≡ smallest []
 unfolding smallest

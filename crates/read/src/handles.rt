@@ -12,7 +12,8 @@ use crate::guards;
 use crate::truth;
 use table::Answer;
 ghost use mathlib.Core.Path.{_≡_};
-ghost use mathlib.Core.Bool.{not, _&&_};
+ghost use mathlib.Core.Bool.{true, false, not, _&&_};
+ghost use Rattle.read.specs.declared.Verdict.the-variants.{Refused};
 ghost use Rattle.read.specs.Machine.{isLoad, allOpen};
 ghost use lib.ListN.{getD};
 ghost use Rattle.table.specs.Copy.{lookRule};
@@ -89,6 +90,13 @@ fn lacks_room(n: usize, null: bool, s: Slot) -> bool
     false
 }
 
+// A sign before those that were judged.
+fn given(b: bool, a: Answer, v: Verdict) -> Verdict
+    ensures { λ r. ⌜ r ≡ elim b [ true ↦ Refused a | false ↦ v ] ⌝ }
+{
+    if b { Verdict::Refused(a) } else { v }
+}
+
 // What speaks against a call; `own`: on slot 0. The smallest number is given.
 pub fn verdict(c: Control, own: bool, s: Slot, h: Handle) -> Verdict
     ensures { λ r. ⌜ r ≡ smallest (handleSigns c own s h) ⌝ }
@@ -99,25 +107,20 @@ pub fn verdict(c: Control, own: bool, s: Slot, h: Handle) -> Verdict
     let n = admission::number(h);
     let j = admission::guard_named(h);
     let e = admission::entry(p, admission::column(n, own));
-    if !s.used {
-        return Verdict::Refused(Answer::NoSlot);
-    }
-    if truth::either(e == admission::NOT_NOW, mistimed(n, d)) {
-        return Verdict::Refused(Answer::NotNow);
-    }
-    if e == admission::LOCKED {
-        return Verdict::Refused(Answer::Locked);
-    }
-    if leaves_guards(n, g) {
-        return Verdict::Refused(Answer::GuardsOpen);
-    }
-    if lacks_guard(n, j, g) {
-        return Verdict::Refused(Answer::NoGuard);
-    }
-    if lacks_room(n, c.null, s) {
-        return Verdict::Refused(Answer::FourGuards);
-    }
-    Verdict::Admitted
+    let v = given(
+        lacks_room(n, c.null, s),
+        Answer::FourGuards,
+        Verdict::Admitted,
+    );
+    let v = given(lacks_guard(n, j, g), Answer::NoGuard, v);
+    let v = given(leaves_guards(n, g), Answer::GuardsOpen, v);
+    let v = given(e == admission::LOCKED, Answer::Locked, v);
+    let v = given(
+        truth::either(e == admission::NOT_NOW, mistimed(n, d)),
+        Answer::NotNow,
+        v,
+    );
+    given(!s.used, Answer::NoSlot, v)
 }
 
 fn bit(b: bool) -> u64

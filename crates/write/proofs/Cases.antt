@@ -27,7 +27,7 @@ use Rattle.write.specs.declared.Opening.{Opening}
 use Rattle.write.specs.Steps.{at, keeping, draining, polled, polling, beginning, published, lastPolling, lastSnapping, snapping, ended, withLog, refused}
 use Rattle.write.specs.Begins.{writerSigns, columnOf, logged, madeAtOnce, appendFirst, appended, appendOn, opened, openOn}
 use Rattle.write.specs.Runs.{afterStep, ranOut, runWhile}
-use Rattle.read.proofs.Verdicts.{Refusal, refused-mild, admitted-unopposed}
+use Rattle.read.proofs.Verdicts.{Refusal, refused-mild, silent}
 use Rattle.write.proofs.Verdicts.{judging, append-idle, open-idle}
 
 -- another job; the phase stays, with its lock
@@ -102,9 +102,8 @@ module _ (P : Lent Moved → Type 0) (kind key amount : ℕ) (c : Control) (s : 
         let signs = writerSigns 7 (not (lawful kind key amount)) full c s in
         judging P (smallest signs)
         (λ v.
-        let u = admitted-unopposed signs v in
-        appended-cases (u .1 .1 .1 .1 .0)
-        (record { idle = append-idle (not (lawful kind key amount)) full c s v; lawfully = not-false (lawful kind key amount) (u .1 .0) }))
+        appended-cases (silent 11 signs v)
+        (record { idle = append-idle (not (lawful kind key amount)) full c s v; lawfully = not-false (lawful kind key amount) (silent 5 signs v) }))
         (λ a v. refusal a (refused-mild signs refl a v))
 
 pub open-cases :

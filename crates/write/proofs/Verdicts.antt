@@ -16,7 +16,7 @@ use Rattle.read.specs.Handles.{smallest}
 use Rattle.write.specs.declared.Opening.{Opening}
 use Rattle.write.specs.declared.Opening.the-variants as opening
 use Rattle.write.specs.Begins.{columnOf, writerSigns, stepSigns}
-use Rattle.read.proofs.Verdicts.{admitted-unopposed}
+use Rattle.read.proofs.Verdicts.{silent}
 use Rattle.read.proofs.Phases.{phase-cases}
 
 -- ---- a verdict, by its value
@@ -39,7 +39,7 @@ pub append-idle :
     (unlawful full : Bool) (c : Control) (s : Slot) → smallest (writerSigns 7 unlawful full c s) ≡ Admitted → c .phase ≡ Idle
 unfolding entry
 append-idle unlawful full c s e =
-    idle-by (c .phase) (neither _ _ (admitted-unopposed (writerSigns 7 unlawful full c s) e .1 .1 .0) .0)
+    idle-by (c .phase) (neither _ _ (silent 6 (writerSigns 7 unlawful full c s) e) .0)
 
 open-timely : (o : Opening) (p : Phase) → eqb (entry p (columnOf o)) 6 ≡ false → eqb (notNow (underway p || isGone p)) 6 ≡ false
 unfolding entry
@@ -52,7 +52,7 @@ pub open-idle :
     (o : Opening) (c : Control) (s : Slot) → smallest (writerSigns (columnOf o) false false c s) ≡ Admitted → c .phase ≡ Idle
 open-idle o c s e =
     idle-by (c .phase)
-    (open-timely o (c .phase) (neither _ _ (admitted-unopposed (writerSigns (columnOf o) false false c s) e .1 .1 .0) .0))
+    (open-timely o (c .phase) (neither _ _ (silent 6 (writerSigns (columnOf o) false false c s) e) .0))
 
 -- step, in column 12, and run, in 13, are admitted where a call is under way
 
@@ -62,8 +62,8 @@ going-by false e = absurd (true≢false e)
 
 pub step-underway : (c : Control) → smallest (stepSigns 12 c) ≡ Admitted → underway (c .phase) ≡ true
 unfolding entry
-step-underway c e = going-by (underway (c .phase)) (admitted-unopposed (stepSigns 12 c) e .1 .0)
+step-underway c e = going-by (underway (c .phase)) (silent 6 (stepSigns 12 c) e)
 
 pub run-underway : (c : Control) → smallest (stepSigns 13 c) ≡ Admitted → underway (c .phase) ≡ true
 unfolding entry
-run-underway c e = going-by (underway (c .phase)) (admitted-unopposed (stepSigns 13 c) e .1 .0)
+run-underway c e = going-by (underway (c .phase)) (silent 6 (stepSigns 13 c) e)

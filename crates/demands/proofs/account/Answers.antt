@@ -35,7 +35,7 @@ use Rattle.demands.proofs.shown.Invariant.{Shape, outside, announced, i
 use Rattle.demands.proofs.shown.Guards.{all-shut}
 use Rattle.demands.proofs.account.Control.{stands-at, SteersOf}
 use Rattle.demands.proofs.account.Reader.{Reads, is-inside, is-lowest, misses, answer15}
-use Rattle.demands.proofs.account.Rows.{Agree, none as no-more, skip, same, here, agree-least, signRows, answerNo, rows-least, entry-6, entry-7, entry-create, entry-step, entry-append, busy-is, lock-is, Row, row}
+use Rattle.demands.proofs.account.Rows.{Agree, none as no-more, same, here, agree-least, signRows, answerNo, rows-least, entry-6, entry-7, entry-create, entry-step, entry-append, busy-is, lock-is, Row, row}
 
 -- ---- tests
 
@@ -124,7 +124,7 @@ module _ (a : Account) (c : Control) (h : SteersOf a c) (w : Whole c) where
 
     drop-rows : Rows Drop
     drop-rows =
-        skip (here no-slot (λ _. skip (here six (λ n. here (seven n) (λ _. here (or-false (inside (a .readers i)) ∙ sym (is-inside rd)) (λ _. same (same (skip (skip (same (same (same no-more))))))))))))
+        same (here no-slot (λ _. same (here six (λ n. here (seven n) (λ _. here (or-false (inside (a .readers i)) ∙ sym (is-inside rd)) (λ _. same (same (same (same (same (same (same no-more))))))))))))
       where
         six : (isDue (a .readers i .due) || (own && busy a || own && not (a .gone))) ≡ (eqb (entry (c .phase) (column Drop own)) 6 || isDue (s .due))
         six =
@@ -148,26 +148,26 @@ module _ (a : Account) (c : Control) (h : SteersOf a c) (w : Whole c) where
 
     enter-rows : Rows Enter
     enter-rows =
-        skip (here no-slot (λ _. skip (here (six-entry Enter (isDue (a .readers i .due)) (isDue (s .due)) (entry-6 (c .phase) Enter own) due-is) (λ n. here (sym (entry-7 (c .phase) Enter own)) (λ _. same (same (here (ap (leb guardCount) (sym (is-lowest rd))) (λ _. skip (skip (same (same (here (or-false (inside (a .readers i) && a .taken) ∙ ap (λ (x : Bool). inside (a .readers i) && x) (sym (h .null))) (λ _. no-more)))))))))))))
+        same (here no-slot (λ _. same (here (six-entry Enter (isDue (a .readers i .due)) (isDue (s .due)) (entry-6 (c .phase) Enter own) due-is) (λ n. here (sym (entry-7 (c .phase) Enter own)) (λ _. same (same (here (ap (leb guardCount) (sym (is-lowest rd))) (λ _. same (same (same (same (here (or-false (inside (a .readers i) && a .taken) ∙ ap (λ (x : Bool). inside (a .readers i) && x) (sym (h .null))) (λ _. no-more)))))))))))))
 
     goOn-rows : Rows GoOn
     goOn-rows =
-        skip (here no-slot (λ _. skip (here (six-entry GoOn (not (isDue (a .readers i .due))) (not (isDue (s .due))) (entry-6 (c .phase) GoOn own) (ap not due-is)) (λ n. here (sym (entry-7 (c .phase) GoOn own)) (λ _. same (same (here (sym (room-due s (c .null) sh)) (λ _. skip (skip (same (same (here (ap (λ (x : Bool). x || not (isLoad (a .readers i .due))) (sym (h .null))) (λ _. no-more)))))))))))))
+        same (here no-slot (λ _. same (here (six-entry GoOn (not (isDue (a .readers i .due))) (not (isDue (s .due))) (entry-6 (c .phase) GoOn own) (ap not due-is)) (λ n. here (sym (entry-7 (c .phase) GoOn own)) (λ _. same (same (here (sym (room-due s (c .null) sh)) (λ _. same (same (same (same (here (ap (λ (x : Bool). x || not (isLoad (a .readers i .due))) (sym (h .null))) (λ _. no-more)))))))))))))
 
     no-guard : (j : ℕ) → not (ltb j guardCount && a .readers i .guards j) ≡ not (isOpen (s .guards) j)
     no-guard j = ap (λ (x : Bool). not (ltb j guardCount && x)) (sym (rd .guards j)) ∙ ap not (and-self-left (ltb j guardCount) _)
 
     release-rows : (j : ℕ) → Rows (Release j)
     release-rows j =
-        skip (here no-slot (λ _. skip (here (six-entry (Release j) false false (entry-6 (c .phase) (Release j) own) refl) (λ n. here (sym (entry-7 (c .phase) (Release j) own)) (λ _. same (here (no-guard j) (λ _. same (skip (skip (same (same (same no-more))))))))))))
+        same (here no-slot (λ _. same (here (six-entry (Release j) false false (entry-6 (c .phase) (Release j) own) refl) (λ n. here (sym (entry-7 (c .phase) (Release j) own)) (λ _. same (here (no-guard j) (λ _. same (same (same (same (same (same no-more))))))))))))
 
     lookUp-rows : (j key : ℕ) → Rows (LookUp j key)
     lookUp-rows j key =
-        skip (here no-slot (λ _. skip (here (six-entry (LookUp j key) false false (entry-6 (c .phase) (LookUp j key) own) refl) (λ n. here (sym (entry-7 (c .phase) (LookUp j key) own)) (λ _. same (here (no-guard j) (λ _. same (skip (skip (same (same (same no-more))))))))))))
+        same (here no-slot (λ _. same (here (six-entry (LookUp j key) false false (entry-6 (c .phase) (LookUp j key) own) refl) (λ n. here (sym (entry-7 (c .phase) (LookUp j key) own)) (λ _. same (here (no-guard j) (λ _. same (same (same (same (same (same no-more))))))))))))
 
     wasDropped-rows : Rows WasDropped
     wasDropped-rows =
-        skip (here no-slot (λ _. skip (here (six-entry WasDropped false false (entry-6 (c .phase) WasDropped own) refl) (λ n. here (sym (entry-7 (c .phase) WasDropped own)) (λ _. same (same (same (skip (skip (same (same (same no-more))))))))))))
+        same (here no-slot (λ _. same (here (six-entry WasDropped false false (entry-6 (c .phase) WasDropped own) refl) (λ n. here (sym (entry-7 (c .phase) WasDropped own)) (λ _. same (same (same (same (same (same (same (same no-more))))))))))))
 
     handle-rows : (hd : Handle) → Rows hd
     handle-rows Drop = drop-rows
@@ -200,7 +200,7 @@ module _ (a : Account) (c : Control) (h : SteersOf a c) (w : Whole c) where
     where
       rows : Agree (whatComesBack a Create) (signRows (createSigns c f) ++ none)
       rows =
-          skip (skip (skip (skip (here (lock' ∙ sym (entry-create (c .phase))) (λ _. skip (skip (skip (skip (here (ap (leb slotCount) (sym q)) (λ _. same (same (same no-more))))))))))))
+          same (same (same (same (here (lock' ∙ sym (entry-create (c .phase))) (λ _. same (same (same (same (here (ap (leb slotCount) (sym q)) (λ _. same (same (same no-more))))))))))))
 
   -- ---- the writer's calls
 
@@ -220,7 +220,7 @@ module _ (a : Account) (c : Control) (h : SteersOf a c) (w : Whole c) where
         ∷ row 8 (inside (a .readers 0)) ∷ row 9 false ∷ row 10 false ∷ row 11 full ∷ row 12 false ∷ none)
         (signRows (writerSigns x unlawful full' c s) ++ none)
     write-rows x unlawful full full' q f =
-        here gone' (λ g. skip (same (here (six-write x q g) (λ n. skip (here (sym (is-inside rd)) (λ _. skip (skip (here (f (idle n g)) (λ _. skip (same (same (same no-more))))))))))))
+        here gone' (λ g. same (same (here (six-write x q g) (λ n. same (here (sym (is-inside rd)) (λ _. same (same (here (f (idle n g)) (λ _. same (same (same (same no-more))))))))))))
       where
         idle : (busy a || (isDue (a .readers 0 .due) || false)) ≡ false → a .gone ≡ false → c .phase ≡ Idle
         idle n g = idle-is (c .phase) (sym busy' ∙ neither (busy a) _ n .0) (sym gone' ∙ g)
@@ -259,4 +259,4 @@ module _ (a : Account) (c : Control) (h : SteersOf a c) (w : Whole c) where
     where
       rows : Agree (whatComesBack a Step) (signRows (stepSigns 12 c) ++ stops (meetsReader a) (a .trial))
       rows =
-          here gone' (λ _. skip (skip (here (or-false (not (busy a)) ∙ ap not busy' ∙ sym (entry-step (c .phase))) (λ _. skip (skip (skip (skip (skip (skip (same (same (same no-more))))))))))))
+          here gone' (λ _. same (same (here (or-false (not (busy a)) ∙ ap not busy' ∙ sym (entry-step (c .phase))) (λ _. same (same (same (same (same (same (same (same (same no-more))))))))))))

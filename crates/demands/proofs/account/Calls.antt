@@ -32,7 +32,7 @@ use Rattle.read.specs.Machine.{slotCount, logRoom, noSlot, newSlot, underway}
 use Rattle.read.specs.Admission.{entry, handleNumber}
 use Rattle.read.specs.Handles.{smallest, handleSigns, handleOn, handled, withDue, bit}
 use Rattle.read.specs.Calls.{Lent, lent, slotAt, withSlot, createSigns, firstFree}
-use Rattle.read.proofs.Verdicts.{admitted-unopposed, Refusal, refused-mild}
+use Rattle.read.proofs.Verdicts.{silent, Refusal, refused-mild}
 use Rattle.write.specs.declared.Moved.{Moved}
 use Rattle.write.specs.declared.Opening.{Opening}
 use Rattle.write.specs.declared.Call.{Call}
@@ -215,7 +215,7 @@ module _ {w : World} {a : Account} (tie : Tie w a) where
       judging (λ (o : Reply). Right a Create (lent o (w .left) (w .right) (w .log))) (smallest (createSigns c free))
       (λ v.
       let z = want ∙ ap (λ x. answerNo x 0) v in
-      let lt : free < slotCount = leb-false slotCount free (admitted-unopposed (createSigns c free) v .1 .0) in
+      let lt : free < slotCount = leb-false slotCount free (silent 12 (createSigns c free) v) in
       record {
         answer = sym z;
         value = value-done a Create free z free-is;

@@ -6,7 +6,7 @@ use mathlib.Core.Bool.{Bool, true, false, not, _&&_, _||_, and-false, or-true, o
 use mathlib.Core.List.{List, [], _∷_, _++_}
 use native.Mathlib.Omega.{arith}
 use lib.Dec.{eqb, ltb}
-use borrow.Author.Tests.{eq-eqb, ltb-true}
+use borrow.Author.Tests.{eq-eqb, eqb-true, ltb-true}
 use Rattle.table.specs.Answers.{number}
 use Rattle.table.proofs.Split.{split}
 use Rattle.table.proofs.Booleans.{clash, both, or-first}
@@ -40,20 +40,42 @@ Row = ℕ × Bool
 abbrev pub row : ℕ → Bool → Row
 row n b = (n, b)
 
--- row by row, the later ones where the earlier do not apply
+-- what the first of the rows says of the number n, and the rows behind it; both as if it were not there where its number is another
+abbrev says : ℕ → List Row → Bool
+says n [] = false
+says n (s ∷ ss) = eqb (s .0) n && s .1
+
+abbrev behindIf : Bool → Row → List Row → List Row
+behindIf b s ss = elim b [ true ↦ ss | false ↦ s ∷ ss ]
+
+abbrev behind : ℕ → List Row → List Row
+behind n [] = []
+behind n (s ∷ ss) = behindIf (eqb (s .0) n) s ss
+
+-- row by row, the later ones where the earlier do not apply; a row that is absent on the right is one that does not apply
 pub data Agree : List Row → List Row → Type 0 where
   none : Agree [] []
-  skip : {n : ℕ} {rs ss : List Row} → Agree rs ss → Agree (row n false ∷ rs) ss
-  same : {r : Row} {rs ss : List Row} → Agree rs ss → Agree (r ∷ rs) (r ∷ ss)
-  here : {n : ℕ} {b c : Bool} {rs ss : List Row} → b ≡ c → (b ≡ false → Agree rs ss) → Agree (row n b ∷ rs) (row n c ∷ ss)
+  here : {n : ℕ} {b : Bool} {rs ss : List Row} → b ≡ says n ss → (b ≡ false → Agree rs (behind n ss)) → Agree (row n b ∷ rs) ss
+
+-- a row that both say in the same words
+pub same : {n : ℕ} {rs ss : List Row} → Agree rs (behind n ss) → Agree (row n (says n ss) ∷ rs) ss
+same h = here refl (λ _. h)
+
+least-says : (n : ℕ) (ss : List Row) → least ss ≡ elim (says n ss) [ true ↦ n | false ↦ least (behind n ss) ]
+least-says n [] = refl
+least-says n (s ∷ ss) = go (eqb (s .0) n) (eqb-true (s .0) n)
+  where
+    go : (b : Bool) → (b ≡ true → s .0 ≡ n) →
+        _≡_ {A = ℕ} (elim (s .1) [ true ↦ s .0 | false ↦ least ss ]) (elim (b && s .1) [ true ↦ n | false ↦ least (behindIf b s ss) ])
+    go true f = ap (λ (m : ℕ). elim (s .1) [ true ↦ m | false ↦ least ss ]) (f refl)
+    go false f = refl
 
 pub agree-least : {rs ss : List Row} → Agree rs ss → least rs ≡ least ss
 agree-least none = refl
-agree-least (skip h) = agree-least h
-agree-least (same {r} h) = ap (λ (x : ℕ). elim (r .1) [ true ↦ r .0 | false ↦ x ]) (agree-least h)
-agree-least (here {n} {b} {c} {rs} {ss} q f) = go b c q (λ e. agree-least (f e))
+agree-least (here {n} {b} {rs} {ss} q f) = go b (says n ss) q (λ e. agree-least (f e)) ∙ sym (least-says n ss)
   where
-    go : (x y : Bool) → x ≡ y → (x ≡ false → least rs ≡ least ss) → _≡_ {A = ℕ} (elim x [ true ↦ n | false ↦ least rs ]) (elim y [ true ↦ n | false ↦ least ss ])
+    go : (x y : Bool) → x ≡ y → (x ≡ false → least rs ≡ least (behind n ss)) →
+        _≡_ {A = ℕ} (elim x [ true ↦ n | false ↦ least rs ]) (elim y [ true ↦ n | false ↦ least (behind n ss) ])
     go true true q f = refl
     go true false q f = clash refl q
     go false true q f = clash refl (sym q)

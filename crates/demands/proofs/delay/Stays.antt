@@ -21,7 +21,7 @@ use Rattle.read.specs.Machine.{slotCount, guardCount}
 use Rattle.read.specs.Handles.{smallest, bit}
 use Rattle.read.specs.Calls.{slotAt, createSigns}
 use Rattle.read.specs.Admission.{handleNumber}
-use Rattle.read.proofs.Verdicts.{admitted-unopposed}
+use Rattle.read.proofs.Verdicts.{silent}
 use Rattle.write.specs.declared.Opening.{Opening}
 use Rattle.write.specs.declared.Call.{Call}
 use Rattle.write.specs.declared.Call.the-variants.{Create, On, Append, Open, Step, Run}
@@ -148,7 +148,7 @@ module _ {w : World} {a : Account} (h : Tie w a) (i j : ℕ) where
       let signs = createSigns c f in
       let v = admitted-zero (smallest signs) signs refl 0 refl
       (sym (wanted-create a c (h .steers) (whole h) f refl) ∙ sym (right h Create refl .answer) ∙ z) in
-      let lt = leb-false slotCount f (admitted-unopposed signs v .1 .0) in
+      let lt = leb-false slotCount f (silent 12 signs v) in
       subst (λ (x : ℕ). a .readers x .lives ≡ false) (sym (worth-is Create refl z)) (not-true (a .readers f .lives) (seek-found (λ k. not (a .readers k .lives)) slotCount lt))
 
   create-stays : (n v : ℕ) → (n ≡ 0 → a .readers v .lives ≡ false) → Stays j (a .readers i) (noted Create n v a .readers i)
