@@ -30,6 +30,10 @@ pub record Sign : Type 0 where
 abbrev pub sign : Answer → Bool → Sign
 sign a b = record { answer = a; applies = b }
 
+-- a sign before those that were judged
+abbrev pub given : Bool → Answer → Verdict → Verdict
+given b a v = elim b [ true ↦ Refused a | false ↦ v ]
+
 -- the first that applies; those of a call stand in the order of their numbers, so it is the smallest
 unfoldable pub smallest : List Sign → Verdict
 smallest [] = Admitted
