@@ -140,13 +140,12 @@ fn create_verdict(c: Control, i: usize) -> Verdict
     ensures { λ r. ⌜ r ≡ smallest (createSigns c i) ⌝ }
 {
     let p = c.phase;
-    if admission::entry(p, CREATE) == admission::LOCKED {
-        return Verdict::Refused(Answer::Locked);
-    }
-    if SLOTS <= i {
-        return Verdict::Refused(Answer::SlotsFull);
-    }
-    Verdict::Admitted
+    let v = handles::given(SLOTS <= i, Answer::SlotsFull, Verdict::Admitted);
+    handles::given(
+        admission::entry(p, CREATE) == admission::LOCKED,
+        Answer::Locked,
+        v,
+    )
 }
 
 // A new handle in slot `i`, the lowest that is free, or none where there is none.

@@ -41,7 +41,7 @@ use Rattle.play.specs.Turns.{isGoing, isRunning, halt, haltOf, far, faci
 use Rattle.play.proofs.Run.{runFrom, run-starts, run-over, run-unrolls}
 use Rattle.play.proofs.Turned.{read-slot}
 use Rattle.read.proofs.Cases.{stateOf}
-use Rattle.read.proofs.Verdicts.{given}
+use Rattle.read.specs.Handles.{given}
 use Rattle.read.proofs.Phases.{idle-cases, underway-stays}
 use Rattle.write.proofs.Count.{left}
 use Rattle.write.proofs.Refusals.{lifted-same}

@@ -37,7 +37,7 @@ use Rattle.write.specs.Begins.{writerSigns, logged, madeAtOnce, appendOn, colum
 use Rattle.write.specs.Runs.{snapAt, lift}
 use Rattle.write.specs.Machine.{callOn}
 use Rattle.play.specs.Turns.{isGoing, passes, waits, movedAs, turnOn}
-use Rattle.read.proofs.Verdicts.{given}
+use Rattle.read.specs.Handles.{given}
 
 -- ---- the search
 

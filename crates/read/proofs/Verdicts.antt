@@ -11,13 +11,10 @@ use Rattle.table.specs.declared.Answer.{Answer}
 use Rattle.table.proofs.Booleans.{both}
 use Rattle.read.specs.declared.Verdict.{Verdict}
 use Rattle.read.specs.declared.Verdict.the-variants.{Admitted, Refused}
-use Rattle.read.specs.Handles.{Sign, sign, smallest}
+use Rattle.read.specs.Handles.{Sign, sign, given, smallest}
 
 pub refused-not : {a : Answer} {C : Type 0} → Refused a ≡ Admitted → C
 refused-not e = let z : _≡_ {A = ℕ} 0 1 = cc in absurd (omega arith)
-
-abbrev pub given : Bool → Answer → Verdict → Verdict
-given b a v = elim b [ true ↦ Refused a | false ↦ v ]
 
 -- ---- admitted: none applies
 
@@ -72,17 +69,6 @@ pub refused-mild : (xs : List Sign) → mild xs ≡ true → (a : Answer) → sm
 refused-mild xs h a e = subst Mild e (smallest-mild xs h)
 
 -- ---- the tests of the code
-
-module _ (a : Answer) (b : Bool) (xs : List Sign) {v : Verdict} where
-  -- this one applies
-  pub first-here : b ≡ true → v ≡ Refused a → v ≡ smallest (sign a b ∷ xs)
-  unfolding smallest
-  first-here e h = h ∙ ap (λ (b : Bool). given b a (smallest xs)) (sym e)
-
-  -- it does not
-  pub first-on : b ≡ false → v ≡ smallest xs → v ≡ smallest (sign a b ∷ xs)
-  unfolding smallest
-  first-on e h = h ∙ ap (λ (b : Bool). given b a (smallest xs)) (sym e)
 
 -- one before those that were judged
 pub push : (a : Answer) (b : Bool) (xs : List Sign) {x : Bool} {v r : Verdict} → r ≡ given x a v → x ≡ b → v ≡ smallest xs → r ≡ smallest (sign a b ∷ xs)

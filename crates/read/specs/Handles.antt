@@ -30,10 +30,14 @@ pub record Sign : Type 0 where
 abbrev pub sign : Answer → Bool → Sign
 sign a b = record { answer = a; applies = b }
 
+-- a sign before those that were judged
+abbrev pub given : Bool → Answer → Verdict → Verdict
+given b a v = elim b [ true ↦ Refused a | false ↦ v ]
+
 -- the first that applies; those of a call stand in the order of their numbers, so it is the smallest
 unfoldable pub smallest : List Sign → Verdict
 smallest [] = Admitted
-smallest (x ∷ xs) = elim (x .applies) [ true ↦ Refused (x .answer) | false ↦ smallest xs ]
+smallest (x ∷ xs) = given (x .applies) (x .answer) (smallest xs)
 
 -- of the call n: enter or drop with a step due; go on with none
 abbrev pub mistimed : ℕ → Due → Bool

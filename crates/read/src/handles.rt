@@ -12,12 +12,11 @@ use crate::guards;
 use crate::truth;
 use table::Answer;
 ghost use mathlib.Core.Path.{_≡_};
-ghost use mathlib.Core.Bool.{true, false, not, _&&_};
-ghost use Rattle.read.specs.declared.Verdict.the-variants.{Refused};
+ghost use mathlib.Core.Bool.{not, _&&_};
 ghost use Rattle.read.specs.Machine.{isLoad, allOpen};
 ghost use lib.ListN.{getD};
 ghost use Rattle.table.specs.Copy.{lookRule};
-ghost use Rattle.read.specs.Handles.{mistimed as mistimedRule, leavesGuards, lacksGuard, lacksRoom, smallest, handleSigns, copyOf, guardedCopy, bit as bitRule, handled, handleOn};
+ghost use Rattle.read.specs.Handles.{mistimed as mistimedRule, leavesGuards, lacksGuard, lacksRoom, given as givenRule, smallest, handleSigns, copyOf, guardedCopy, bit as bitRule, handled, handleOn};
 
 // The calls by their numbers in a schedule.
 const DROP: usize = 2;
@@ -91,8 +90,8 @@ fn lacks_room(n: usize, null: bool, s: Slot) -> bool
 }
 
 // A sign before those that were judged.
-fn given(b: bool, a: Answer, v: Verdict) -> Verdict
-    ensures { λ r. ⌜ r ≡ elim b [ true ↦ Refused a | false ↦ v ] ⌝ }
+pub fn given(b: bool, a: Answer, v: Verdict) -> Verdict
+    ensures { λ r. ⌜ r ≡ givenRule b a v ⌝ }
 {
     if b { Verdict::Refused(a) } else { v }
 }

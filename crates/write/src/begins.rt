@@ -12,6 +12,7 @@ use read::Slot;
 use read::Verdict;
 use read::admission;
 use read::guards;
+use read::handles;
 use read::truth;
 use table::Answer;
 ghost use mathlib.Core.Path.{_≡_};
@@ -42,25 +43,18 @@ fn writer_verdict(column: usize, unlawful: bool, full: bool, c: Control, s: Slot
     let p = c.phase;
     let d = s.due;
     let g = s.guards;
-    if is_gone(p) {
-        return Verdict::Refused(Answer::Gone);
-    }
-    if unlawful {
-        return Verdict::Refused(Answer::Operation);
-    }
-    if truth::either(
-        admission::entry(p, column) == admission::NOT_NOW,
-        guards::is_due(d),
-    ) {
-        return Verdict::Refused(Answer::NotNow);
-    }
-    if guards::any_open(g) {
-        return Verdict::Refused(Answer::GuardsOpen);
-    }
-    if full {
-        return Verdict::Refused(Answer::LogFull);
-    }
-    Verdict::Admitted
+    let v = handles::given(full, Answer::LogFull, Verdict::Admitted);
+    let v = handles::given(guards::any_open(g), Answer::GuardsOpen, v);
+    let v = handles::given(
+        truth::either(
+            admission::entry(p, column) == admission::NOT_NOW,
+            guards::is_due(d),
+        ),
+        Answer::NotNow,
+        v,
+    );
+    let v = handles::given(unlawful, Answer::Operation, v);
+    handles::given(is_gone(p), Answer::Gone, v)
 }
 
 // Step and run look at no slot to be admitted.
@@ -68,13 +62,12 @@ pub fn step_verdict(column: usize, c: Control) -> Verdict
     ensures { λ r. ⌜ r ≡ smallest (stepSigns column c) ⌝ }
 {
     let p = c.phase;
-    if is_gone(p) {
-        return Verdict::Refused(Answer::Gone);
-    }
-    if admission::entry(p, column) == admission::NOT_NOW {
-        return Verdict::Refused(Answer::NotNow);
-    }
-    Verdict::Admitted
+    let v = handles::given(
+        admission::entry(p, column) == admission::NOT_NOW,
+        Answer::NotNow,
+        Verdict::Admitted,
+    );
+    handles::given(is_gone(p), Answer::Gone, v)
 }
 
 // ---- append

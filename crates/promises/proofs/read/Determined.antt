@@ -20,6 +20,7 @@ use Rattle.read.proofs.guards.new_slot.Reads as guards-new-slot
 use Rattle.read.proofs.guards.freed.Reads as guards-freed
 use Rattle.read.proofs.guards.released.Reads as guards-released
 use Rattle.read.proofs.truth.either.Reads as either
+use Rattle.read.proofs.handles.given.Reads as given
 use Rattle.read.proofs.admission.locks.Reads as locks
 use Rattle.machine.proofs.start.Reads as start
 use Rattle.machine.proofs.create.Reads as create
@@ -87,6 +88,9 @@ guards-released-determined κs a r q s t h l = h ∙ sym l
 
 handles-guarded-copy-determined : DeterminesWords guarded-copy.Post
 handles-guarded-copy-determined κs a r q s t h l = h ∙ sym l
+
+given-determined : Determines given.Post
+given-determined κs a r q s t h l = h ∙ sym l
 
 either-determined : Determines either.Post
 either-determined κs a r q s t h l = h ∙ sym l

@@ -3,6 +3,7 @@ use Prim.Native.Nat.{ℕ}
 use mathlib.Core.Bool.{Bool, _||_}
 use mathlib.Core.List.{List}
 use Rattle.promises.proofs.Contracts.{typed, Words, ref, Refs, refs, lends, κ₁, κ₂, κ₃, Leaves, Keeps, Keeps1, Keeps2}
+use Rattle.table.specs.declared.Answer.{Answer}
 use Rattle.read.specs.declared.Due.{Due}
 use Rattle.read.specs.declared.Guard.{Guard}
 use Rattle.read.specs.declared.Slot.{Slot}
@@ -16,7 +17,7 @@ use Rattle.read.specs.declared.Reply.{Reply}
 use Rattle.read.specs.declared.Handle.the-variants.{Drop, Enter, GoOn, Release, LookUp, WasDropped}
 use Rattle.read.specs.Machine.{same, isOpen, firstGuard, anyOpen, allOpen, isDue, isLoad, noSlot, newSlot, locks, nulls, sized, glanced, judged, row, fresh}
 use Rattle.read.specs.Admission.{entry}
-use Rattle.read.specs.Handles.{smallest, handleSigns, freed, entered, wentOn, released, guardedCopy, handleOn}
+use Rattle.read.specs.Handles.{given, smallest, handleSigns, freed, entered, wentOn, released, guardedCopy, handleOn}
 use Rattle.read.specs.Calls.{Lent, slotAt, handleRule, createRule, viewRule, pairRule, startRule}
 use Rattle.read.proofs
 use Rattle.machine.proofs as whole
@@ -78,6 +79,11 @@ abbrev pub ReleasedPromise : (ℕ → Slot → Slot) → Type 0
 ReleasedPromise = Keeps2 (typed tt proofs.guards.released.Kinds.ps) (proofs.guards.released.Reads.Post tt)
 
 -- ---- a call on a handle, on its slot
+
+abbrev pub GivenPromise : (Bool → Answer → Verdict → Verdict) → Type 0
+GivenPromise f =
+    (b : Bool) (a : Answer) (v : Verdict) →
+    Keeps (typed tt proofs.handles.given.Kinds.ps) (proofs.handles.given.Reads.Post tt) (b, (a, (v, tt))) (f b a v)
 
 abbrev pub VerdictPromise : (Control → Bool → Slot → Handle → Verdict) → Type 0
 VerdictPromise f =
@@ -185,7 +191,7 @@ pub kept :
     FreshPromise fresh × SlotAtPromise slotAt × RowPromise row × EntryPromise entry × FirstGuardPromise firstGuard × IsOpenPromise isOpen
     × AnyOpenPromise anyOpen × AllOpenPromise allOpen × IsDuePromise isDue × IsLoadPromise isLoad × NoSlotPromise noSlot
     × NewSlotPromise newSlot × FreedPromise freed × EnteredPromise entered × WentOnPromise (λ c s. wentOn c (s .due) s)
-    × ReleasedPromise released × VerdictPromise (λ c own s h. smallest (handleSigns c own s h)) × GuardedCopyPromise guardedCopy × HandlePromise handleOn
+    × ReleasedPromise released × GivenPromise given × VerdictPromise (λ c own s h. smallest (handleSigns c own s h)) × GuardedCopyPromise guardedCopy × HandlePromise handleOn
     × EitherPromise _||_ × LocksPromise locks × SamePromise same
     × SizedPromise sized × JudgePromise judged × StartPromise startRule × CreatePromise createRule
     × DropPromise (λ i. handleRule i Drop) × EnterPromise (λ i. handleRule i Enter) × GoOnPromise (λ i. handleRule i GoOn)

@@ -36,7 +36,7 @@ use Rattle.read.proofs.Computes.{rules}
 use Rattle.promises.proofs.read.Promises.{FreshPromise, SlotAtPromise, RowPromise, EntryPromise, FirstGuardPromise, IsOpenPromise}
 use Rattle.promises.proofs.read.Promises.{AnyOpenPromise, AllOpenPromise, IsDuePromise, IsLoadPromise, NoSlotPromise, NewSlotPromise}
 use Rattle.promises.proofs.read.Promises.{FreedPromise, EnteredPromise, WentOnPromise, ReleasedPromise, VerdictPromise, GuardedCopyPromise}
-use Rattle.promises.proofs.read.Promises.{HandlePromise, EitherPromise, LocksPromise, SamePromise}
+use Rattle.promises.proofs.read.Promises.{HandlePromise, GivenPromise, EitherPromise, LocksPromise, SamePromise}
 use Rattle.promises.proofs.read.Promises.{SizedPromise, JudgePromise, StartPromise, CreatePromise, DropPromise, EnterPromise}
 use Rattle.promises.proofs.read.Promises.{GoOnPromise, WasDroppedPromise, OnHandlePromise, ReleasePromise, LookUpPromise, ViewPromise}
 use Rattle.promises.proofs.read.Promises.{PairPromise}
@@ -363,6 +363,13 @@ larger-wrong h = apart verdict refl (h idle false (withReading 1 noGuards Load n
 admitsAll-wrong : VerdictPromise (λ c own s h. Admitted) → ⊥
 unfolding rules
 admitsAll-wrong h = apart verdict refl (h idle false noSlot Enter refl)
+
+-- a sign that applies is passed over; one that does not is given
+given-over-wrong : GivenPromise (λ b a v. v) → ⊥
+given-over-wrong h = apart verdict refl (h true answer.Gone Admitted refl)
+
+given-always-wrong : GivenPromise (λ b a v. Refused a) → ⊥
+given-always-wrong h = apart verdict refl (h false answer.Gone Admitted refl)
 
 -- either is both, or the first alone
 either-both-wrong : EitherPromise _&&_ → ⊥
