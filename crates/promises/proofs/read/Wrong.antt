@@ -305,6 +305,14 @@ bumpsEach-wrong : ReleasedPromise bumpsEach → ⊥
 unfolding rules
 bumpsEach-wrong h = apart (λ s. s .epoch) refl (h 0 (slotWith 1 two Nothing) refl)
 
+-- release adds two at the last guard, and leaves the epoch odd
+abbrev addsTwo : ℕ → Slot → Slot
+addsTwo j s = let t = released j s in withReading (elim (anyOpen (t .guards)) [ true ↦ t .epoch | false ↦ bumped (t .epoch) ]) (t .guards) (t .due) t
+
+addsTwo-wrong : ReleasedPromise addsTwo → ⊥
+unfolding rules
+addsTwo-wrong h = apart (λ s. s .epoch) refl (h 0 (slotWith 1 one Nothing) refl)
+
 -- the last release stops at 2^64-1
 abbrev stopsAtEnd : ℕ → Slot → Slot
 stopsAtEnd j s =
@@ -532,6 +540,10 @@ releasing f i j = calling (λ c s l r. record { answer = answer.Done; value = 0;
 release-bumps-wrong : ReleasePromise (releasing bumpsEach) → ⊥
 unfolding rules
 release-bumps-wrong h = apart epochOf refl (h 1 0 none none noLog (machine (slotWith 1 two Nothing)) refl)
+
+release-adds-wrong : ReleasePromise (releasing addsTwo) → ⊥
+unfolding rules
+release-adds-wrong h = apart epochOf refl (h 1 0 none none noLog (machine (slotWith 1 one Nothing)) refl)
 
 release-stops-wrong : ReleasePromise (releasing stopsAtEnd) → ⊥
 unfolding rules

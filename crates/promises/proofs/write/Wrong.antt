@@ -242,6 +242,19 @@ keepsIndex-wrong : AdvancePromise keepsIndex → ⊥
 unfolding rules
 keepsIndex-wrong h = apart (λ o. o .made .control .swapped) refl (h (fitting Drain Publish false false 1 1) newSlot 0 none none log7 refl)
 
+-- a drain that takes the log's length for the swap index
+abbrev indexOfLength : Part
+indexOfLength =
+    but 4
+    (λ c s e l r g.
+    let o = stepAt Drain c s e l r g in
+    let d = o .made .control in
+    lent (moved (withLog (d .length) (d .length) d) s e) (o .left) (o .right) (o .log))
+
+indexOfLength-wrong : AdvancePromise indexOfLength → ⊥
+unfolding rules
+indexOfLength-wrong h = apart (λ o. o .made .control .swapped) refl (h (fitting Drain Publish false false 2 1) newSlot 0 none none log7 refl)
+
 -- a drain that leaves the operation in the log
 abbrev drainsNothing : Part
 drainsNothing =
@@ -445,6 +458,14 @@ flushesSeen-wrong : FlushPromise flushesSeen → ⊥
 unfolding rules
 flushesSeen-wrong h = apart valued refl (h (with1 (fitting Idle Publish false true 1 1) noSlot 0) none none log7 refl)
 
+-- flush: it publishes always
+abbrev flushesAlways : Beginning
+flushesAlways = opens opening.Flush (λ c s e. value 1 (begun c) s e)
+
+flushesAlways-wrong : FlushPromise flushesAlways → ⊥
+unfolding rules
+flushesAlways-wrong h = apart valued refl (h later none none noLog refl)
+
 -- take: the lock at its beginning
 abbrev locksAtOnce : Beginning
 locksAtOnce =
@@ -508,6 +529,11 @@ heldSays f st l r g =
 run-countsHeld-wrong : RunPromise (heldSays (λ n. n + 1)) → ⊥
 unfolding rules
 run-countsHeld-wrong h = apart valued refl (h heldAt1 none none noLog refl)
+
+-- the steps before it are forgotten
+run-forgetsSteps-wrong : RunPromise (heldSays (λ n. 0)) → ⊥
+unfolding rules
+run-forgetsSteps-wrong h = apart valued refl (h (with1 (fitting (Poll 0) Publish false false 0 0) inside 1) none none noLog refl)
 
 -- a number that has nothing to do with them
 run-inventsValue-wrong : RunPromise (heldSays (λ n. 99)) → ⊥
