@@ -5,7 +5,7 @@ use mathlib.Core.List.{List, [], _∷_, _++_, append-nil}
 use native.Mathlib.Nat.{sub-zero}
 use native.Mathlib.Numerals.{add-one}
 use native.Mathlib.Omega.{arith}
-use lib.ListN.{length, getD, take, drop, set, replicate, length-append, length-take, length-drop, take-append-drop, List·getD-append}
+use lib.ListN.{length, getD, take, drop, set, replicate, length-take, length-drop, take-append-drop, List·getD-append}
 use lib.Seq.{length-take-le, take-suc, drop-cons, set-at, getD-take, getD-drop, getD-append-add, append-snoc, drop-length}
 use Rattle.table.specs.Copy.{zeros, opened}
 
@@ -14,9 +14,6 @@ use Rattle.table.specs.Copy.{zeros, opened}
 -- after j turns of a loop that copies s over p from the front
 abbrev pub over : ℕ → List ℕ → List ℕ → List ℕ
 over j s p = take j s ++ drop j p
-
-pub length-over : (j : ℕ) (s p : List ℕ) → j ≤ length s → j ≤ length p → length (over j s p) ≡ length p
-length-over j s p h l = simp (length-append, length-take, length-drop) (omega arith)
 
 -- what stands behind them is as it was
 pub getD-over : (j i : ℕ) (s p : List ℕ) → j ≤ length s → getD (over j s p) (j + i) 0 ≡ getD p (j + i) 0
@@ -54,9 +51,6 @@ up-none m p =
     let e : m - m ≡ 0 = omega arith in
     let d : m + 2 ≡ 2 + m = omega arith in
     rw (e, d, take-append-drop (2 + m) p)
-
-pub length-up : (j m : ℕ) (p : List ℕ) → j ≤ m → m + 2 ≤ length p → length (upFrom j m p) ≡ length p
-length-up j m p h l = simp (length-append, length-take, length-drop) (omega arith)
 
 pub getD-up : (j i m : ℕ) (p : List ℕ) → i < j + 2 → j + 2 ≤ length p → getD (upFrom j m p) i 0 ≡ getD p i 0
 getD-up j i m p h l =

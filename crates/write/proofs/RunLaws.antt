@@ -3,7 +3,7 @@
 use Prim.Native.Nat.{ℕ, zero, suc, _+_, _-_, _≤_, _<_}
 use mathlib.Core.Path.{_≡_, refl, sym, ap, subst, _∙_}
 use mathlib.Core.Bool.{Bool, true, false, true≢false}
-use mathlib.Core.List.{List, []}
+use mathlib.Core.List.{List}
 use native.Mathlib.Omega.{arith}
 use lib.ListN.{length, getD, set}
 use lib.Seq.{set-getD}
@@ -203,9 +203,6 @@ module _ {o : Lent Reply} {k n : ℕ} {c : Control} {ss : List Slot} {es l r g :
   pub goes-few : n < manySteps
   goes-few = omega (arith, h .count, h .most)
 
-  pub goes-more : underway (c .phase) ≡ true → n < k
-  goes-more u = omega (arith, h .count, underway-left c (h .whole) u)
-
   -- no call is under way
   pub goes-ended :
       {a : Answer} → a ≡ answer.Done → underway (c .phase) ≡ false → lent (record { answer = a; value = n; state = stateOf c ss es }) l r g ≡ o
@@ -263,9 +260,6 @@ scanning c i = at (scanningAt (c .phase) c i) c
 pub scanning-poll : (c : Control) (i : ℕ) {j : ℕ} → c .phase ≡ Poll j → scanning c i ≡ at (polling c i) c
 scanning-poll c i e = ap (λ (p : Phase). at (scanningAt p c i) c) e
 
-pub scanning-lastPoll : (c : Control) (i : ℕ) {j : ℕ} → c .phase ≡ LastPoll j → scanning c i ≡ at (lastPolling i) c
-scanning-lastPoll c i e = ap (λ (p : Phase). at (scanningAt p c i) c) e
-
 -- the run stands there
 abbrev pub Scans : Lent Reply → ℕ → ℕ → Control → ℕ → List Slot → List ℕ → List ℕ → List ℕ → List ℕ → Type 0
 Scans o k n c i ss es l r g = Goes o k n (scanning c i) ss es l r g
@@ -318,23 +312,10 @@ polls-cases P f g (LastPoll k) q = g k
 polls-cases P f g Finish q = absurd (true≢false (sym q))
 polls-cases P f g Gone q = absurd (true≢false (sym q))
 
--- a scan is under way: there is a slot to poll, or what follows the polls
-pub polls-underway : (p : Phase) → polls p ≡ true → underway p ≡ true
-polls-underway = polls-cases (λ p. underway p ≡ true) (λ k. refl) (λ k. refl)
-
 scanning-start : (c : Control) (p : Phase) → polls p ≡ true → Placed (c .length) (c .swapped) p → scanningAt p c (place p) ≡ p
 scanning-start c =
     polls-cases (λ p. Placed (c .length) (c .swapped) p → scanningAt p c (place p) ≡ p) (λ k h. polling-here c k h)
     (λ k h. lastPolling-here k h)
-
-scanning-end : (c : Control) (i : ℕ) (p : Phase) → polls p ≡ true → slotCount ≤ i → scanningAt p c i ≡ scanned p c
-scanning-end c i =
-    polls-cases (λ p. slotCount ≤ i → scanningAt p c i ≡ scanned p c) (λ k h. polling-end c i h) (λ k h. lastPolling-end i h)
-
-scanning-underway : (c : Control) (i : ℕ) (p : Phase) → polls p ≡ true → i < slotCount → underway (scanningAt p c i) ≡ true
-scanning-underway c i =
-    polls-cases (λ p. i < slotCount → underway (scanningAt p c i) ≡ true) (λ k b. ap underway (polling-here c i b))
-    (λ k b. ap underway (lastPolling-here i b))
 
 -- a whole control part has the lock that its phase asks
 at-own : (c : Control) → Whole c → at (c .phase) c ≡ c
@@ -416,21 +397,6 @@ module _ {o : Lent Reply} {k n : ℕ} (c : Control) {ss : List Slot} {es l r g :
       ap (λ (j : ℕ). scanning c j) at-i ∙ ap (λ (p : Phase). at p c) (scanning-start c (c .phase) q (h .whole .placed))
       ∙ at-own c (h .whole) in
       subst (λ (d : Control). Goes o k n d ss es l r g) (sym x) h
-
-  -- there is one more step to make
-  pub scan-more : Scans o k n c i ss es l r g → polls (c .phase) ≡ true → i < slotCount → n < k
-  scan-more h q b = goes-more h (scanning-underway c i (c .phase) q b)
-
-  -- the scan is left with the control part that it has come to
-  pub scan-left : {d : Control} → Scans o k n c i ss es l r g → d ≡ scanning c i → Goes o k n d ss es l r g
-  scan-left h e = subst (λ (d : Control). Goes o k n d ss es l r g) (sym e) h
-
-  -- behind the last slot the run goes on with what follows the polls
-  pub scan-end :
-      {d : Control} → Scans o k n c i ss es l r g → polls (c .phase) ≡ true → slotCount ≤ i → d ≡ at (scanned (c .phase) c) c →
-      Goes o k n d ss es l r g
-  scan-end h q b e =
-      subst (λ (d : Control). Goes o k n d ss es l r g) (ap (λ (p : Phase). at p c) (scanning-end c i (c .phase) q b) ∙ sym e) h
 
   -- a poll that passes
   pub scan-passed :

@@ -63,7 +63,3 @@ going-by false e = absurd (true≢false e)
 pub step-underway : (c : Control) → smallest (stepSigns 12 c) ≡ Admitted → underway (c .phase) ≡ true
 unfolding entry
 step-underway c e = going-by (underway (c .phase)) (silent 6 (stepSigns 12 c) e)
-
-pub run-underway : (c : Control) → smallest (stepSigns 13 c) ≡ Admitted → underway (c .phase) ≡ true
-unfolding entry
-run-underway c e = going-by (underway (c .phase)) (silent 6 (stepSigns 13 c) e)
