@@ -33,6 +33,9 @@ pub record Op : Type 0 where
   pub key : ℕ
   pub amount : ℕ
 
+abbrev pub op : ℕ → ℕ → ℕ → Op
+op kind key amount = record { kind = kind; key = key; amount = amount }
+
 abbrev pub after : List Op → List ℕ → List ℕ
 after [] w = w
 after (o ∷ os) w = after os (applied (o .kind) (o .key) (o .amount) w)

@@ -4,13 +4,14 @@ use mathlib.Core.Path.{_≡_, refl}
 use mathlib.Core.Bool.{Bool, true, false, not, _&&_}
 use mathlib.Core.List.{List}
 use native.Mathlib.Omega.{arith}
-use lib.Dec.{leb}
-use borrow.Author.Tests.{leb-false, not-false}
-use Rattle.table.specs.Copy.{lawful}
+use lib.Dec.{ltb, leb}
+use lib.ListN.{length}
+use borrow.Author.Tests.{ltb-false, not-false}
+use Rattle.table.specs.Order.{Op}
 use Rattle.table.specs.declared.Answer.{Answer}
 use Rattle.table.specs.Answers.{number}
 use Rattle.table.proofs.Split.{by, below}
-use Rattle.table.proofs.Booleans.{clash}
+use Rattle.table.proofs.Booleans.{both, clash}
 use Rattle.read.specs.declared.Phase.{Phase}
 use Rattle.read.specs.declared.Phase.the-variants.{Idle, Begin, Poll, Copy, Drain, Keep, Swap, Snap, Null, LastSnap, LastPoll, Finish}
 use Rattle.read.specs.declared.Job.{Job}
@@ -24,8 +25,8 @@ use Rattle.read.specs.Calls.{Lent, lent}
 use Rattle.read.specs.Handles.{smallest}
 use Rattle.write.specs.declared.Moved.{Moved}
 use Rattle.write.specs.declared.Opening.{Opening}
-use Rattle.write.specs.Steps.{at, keeping, draining, polled, polling, beginning, published, lastPolling, lastSnapping, snapping, ended, withLog, refused}
-use Rattle.write.specs.Begins.{writerSigns, columnOf, logged, madeAtOnce, appendFirst, appended, appendOn, opened, openOn}
+use Rattle.write.specs.Steps.{at, keeping, draining, polled, polling, beginning, published, lastPolling, lastSnapping, snapping, ended, refused}
+use Rattle.write.specs.Begins.{writerSigns, columnOf, batchRoom, allLawful, lawfulBatch, crowds, appendFirst, appendLater, appendOn, opened, openOn}
 use Rattle.write.specs.Runs.{afterStep, ranOut, runWhile}
 use Rattle.read.proofs.Verdicts.{Refusal, refused-mild, silent}
 use Rattle.write.proofs.Verdicts.{judging, append-idle, open-idle}
@@ -34,10 +35,10 @@ use Rattle.write.proofs.Verdicts.{judging, append-idle, open-idle}
 abbrev pub withJob : Job → Control → Control
 withJob j c = standing (c .phase) j c
 
--- the log has room for one more, where `first` is over
-pub roomy : (n : ℕ) (first : Bool) → first ≡ false → (not first && leb logRoom n) ≡ false → n < logRoom
+-- the log has room for n operations, where `first` is over
+pub roomy : (n : ℕ) (first : Bool) → first ≡ false → (not first && ltb logRoom n) ≡ false → n ≤ logRoom
 roomy n true q h = clash refl q
-roomy n false q h = leb-false logRoom n h
+roomy n false q h = ltb-false logRoom n h
 
 -- ---- the phases
 
@@ -78,32 +79,26 @@ snapping-cases P c k f g = below P k slotCount f g
 -- ---- the calls that are made at once
 
 -- what an append that is made was admitted by
-pub record Appends (kind key amount : ℕ) (c : Control) : Type 0 where
+pub record Appends (os : List Op) (c : Control) : Type 0 where
   pub idle : c .phase ≡ Idle
-  pub lawfully : lawful kind key amount ≡ true
+  pub lawfully : allLawful os ≡ true
 
-module _ (P : Lent Moved → Type 0) (kind key amount : ℕ) (c : Control) (s : Slot) (e : ℕ) (l r g : List ℕ)
-    (first : c .first ≡ true → Appends kind key amount c → P (appendFirst kind key amount c s e l r g))
-    (later :
-    c .first ≡ false → c .length < logRoom → Appends kind key amount c →
-    P (lent (madeAtOnce (withLog (c .length + 1) (c .swapped) c) s e) l r (logged (c .length) kind key amount g)))
+module _ (P : Lent Moved → Type 0) (os : List Op) (c : Control) (s : Slot) (e : ℕ) (l r g : List ℕ)
+    (first : c .first ≡ true → Appends os c → P (appendFirst os c s e l r g))
+    (later : c .first ≡ false → c .length + length os ≤ logRoom → Appends os c → P (appendLater os c s e l r g))
     (refusal : (a : Answer) → Refusal a → P (lent (refused a c s e) l r g))
   where
-    appended-cases :
-        (not (c .first) && leb logRoom (c .length)) ≡ false → Appends kind key amount c → P (appended (c .first) kind key amount c s e l r g)
-    appended-cases full h =
-        by P (c .first) (λ q. first q h)
-        (λ q. below P (c .length) logRoom (λ u. later q u h) (λ u. absurd (let v = roomy (c .length) (c .first) q full in omega arith)))
-
-    pub append-cases : P (appendOn kind key amount c s e l r g)
+    pub append-cases : P (appendOn os c s e l r g)
     unfolding appendOn
     append-cases =
-        let full = not (c .first) && leb logRoom (c .length) in
-        let signs = writerSigns 7 (not (lawful kind key amount)) full c s in
+        let unlawful = not (lawfulBatch os) in
+        let full = crowds (length os) c in
+        let signs = writerSigns 7 unlawful full c s in
         judging P (smallest signs)
         (λ v.
-        appended-cases (silent 11 signs v)
-        (record { idle = append-idle (not (lawful kind key amount)) full c s v; lawfully = not-false (lawful kind key amount) (silent 5 signs v) }))
+        let h : Appends os c =
+        record { idle = append-idle unlawful full c s v; lawfully = both (leb (length os) batchRoom) (allLawful os) (not-false (lawfulBatch os) (silent 5 signs v)) .1 } in
+        by P (c .first) (λ q. first q h) (λ q. later q (roomy (c .length + length os) (c .first) q (silent 11 signs v)) h))
         (λ a v. refusal a (refused-mild signs refl a v))
 
 pub open-cases :

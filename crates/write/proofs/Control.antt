@@ -6,7 +6,9 @@ use mathlib.Core.List.{List}
 use mathlib.Core.Logic.{_↔_}
 use native.Mathlib.Omega.{arith}
 use lib.Dec.{ltb, leb}
+use lib.ListN.{length}
 use borrow.Author.Tests.{ltb-true, leb-true, lt-ltb, le-leb}
+use Rattle.table.specs.Order.{Op}
 use Rattle.table.proofs.Booleans.{both}
 use Rattle.table.proofs.Split.{by, below}
 use Rattle.read.proofs.Same.{same-equal, equal-same}
@@ -199,14 +201,14 @@ module _ (c : Control) (w : Whole c) (s : Slot) (e : ℕ) where
 -- ---- append, and the beginnings
 
 module _ (c : Control) (w : Whole c) (s : Slot) (e : ℕ) where
-  module _ (kind key amount : ℕ) (l r g : List ℕ) where
-    pub whole-append : Whole (appendOn kind key amount c s e l r g .made .control)
+  module _ (os : List Op) (l r g : List ℕ) where
+    pub whole-append : Whole (appendOn os c s e l r g .made .control)
     whole-append =
-        append-cases (λ m. Whole (m .made .control)) kind key amount c s e l r g (λ f h. w)
+        append-cases (λ m. Whole (m .made .control)) os c s e l r g (λ f h. w)
         (λ f u h. record {
-          room = omega arith;
+          room = u;
           within = omega (arith, w .within);
-          placed = subst (Placed (c .length + 1) (c .swapped)) (sym (h .idle)) tt;
+          placed = subst (Placed (c .length + length os) (c .swapped)) (sym (h .idle)) tt;
           locked = w .locked;
           pointed = w .pointed;
         })

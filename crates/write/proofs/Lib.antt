@@ -11,6 +11,7 @@ pub mod Refusals
 pub mod NeverBroken
 pub mod Next
 pub mod Lent
+pub mod Ops
 pub mod Arms
 pub mod Made
 pub mod Turns

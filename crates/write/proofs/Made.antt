@@ -1,12 +1,15 @@
 -- The calls that are made at once: each rule under the tests that lead to it, as the code's functions meet it.
-use Prim.Native.Nat.{ℕ, _+_, _%_, _^_, _≤_, _<_}
+use Prim.Native.Nat.{ℕ, _+_, _-_, _%_, _^_, _≤_, _<_}
 use mathlib.Core.Path.{_≡_, sym, ap, _∙_}
 use mathlib.Core.Bool.{Bool, true, false, not, _&&_, _||_}
 use mathlib.Core.List.{List}
 use native.Mathlib.Omega.{arith}
 use lib.Dec.{ltb, leb}
-use borrow.Author.Tests.{lt-ltb, le-ltb}
-use Rattle.table.specs.Copy.{lawful}
+use lib.ListN.{length}
+use borrow.Author.Tests.{lt-ltb, le-ltb, ltb-true, ltb-false, not-false}
+use Rattle.table.specs.Order.{Op}
+use Rattle.table.proofs.Booleans.{both}
+use Rattle.table.proofs.Split.{split}
 use Rattle.table.specs.declared.Answer.{Answer}
 use Rattle.table.specs.declared.Answer.the-variants as answer
 use Rattle.read.specs.declared.Slot.{Slot}
@@ -17,73 +20,84 @@ use Rattle.read.specs.declared.Control.{Control}
 use Rattle.read.specs.declared.Verdict.{Verdict}
 use Rattle.read.specs.declared.Verdict.the-variants.{Admitted, Refused}
 use Rattle.read.specs.Machine.{standing, logRoom}
-use Rattle.read.specs.Handles.{smallest, withDue}
+use Rattle.read.specs.Handles.{Sign, smallest, withDue}
 use Rattle.read.specs.Calls.{Lent, lent}
 use Rattle.write.specs.declared.Moved.{Moved}
 use Rattle.write.specs.declared.Opening.{Opening}
 use Rattle.write.specs.declared.Opening.the-variants as opening
-use Rattle.write.specs.Steps.{withLog, ofLeft, ofRight, operated, refused}
-use Rattle.write.specs.Begins.{writerSigns, logged, appendLater, appended, appendOn, columnOf, begun, value, taking, opened, openOn}
+use Rattle.write.specs.Steps.{withLog, ofLeft, ofRight, refused}
+use Rattle.write.specs.Begins.{writerSigns, batchRoom, allLawful, lawfulBatch, crowds, operatedAll, loggedAll, appended, appendOn, columnOf, begun, value, taking, opened, openOn}
+use Rattle.read.proofs.Verdicts.{silent}
 use Rattle.write.proofs.Next.{polling-here}
 
 -- ---- append
 
-pub full-later : (c : Control) → c .first ≡ false → leb logRoom (c .length) ≡ (not (c .first) && leb logRoom (c .length))
-full-later c x = ap (λ (b : Bool). not b && leb logRoom (c .length)) (sym x)
+-- whether the log is too short for n more
+module _ (n : ℕ) (c : Control) where
+  pub crowds-first : c .first ≡ true → false ≡ crowds n c
+  crowds-first x = ap (λ (b : Bool). not b && ltb logRoom (c .length + n)) (sym x)
 
-module _ (kind key amount : ℕ) (c : Control) (s : Slot) (e : ℕ) (l r g : List ℕ) where
+  crowds-later : c .first ≡ false → {b : Bool} → b ≡ ltb logRoom (c .length + n) → b ≡ crowds n c
+  crowds-later x y = y ∙ ap (λ (b : Bool). not b && ltb logRoom (c .length + n)) (sym x)
+
+  pub crowds-over : c .first ≡ false → logRoom < c .length → true ≡ crowds n c
+  crowds-over x h = crowds-later x (sym (lt-ltb logRoom (c .length + n) (omega arith)))
+
+  pub crowds-room : c .first ≡ false → c .length ≤ logRoom → {m : ℕ} → m ≡ logRoom - c .length → ltb m n ≡ crowds n c
+  crowds-room x h {m} q =
+      crowds-later x
+      (split (ltb m n) (λ e. e ∙ sym (lt-ltb logRoom (c .length + n) (let u = ltb-true m n e in omega arith)))
+      (λ e. e ∙ sym (le-ltb logRoom (c .length + n) (let u = ltb-false m n e in omega arith))))
+
+module _ (os : List Op) (c : Control) (s : Slot) (e : ℕ) (l r g : List ℕ) where
   pub appended-first :
       {m : Moved} {t : Slot} {l' r' : List ℕ} →
       c .first ≡ true → t ≡ withDue ((s .epoch + 2) % 2 ^ 64) (s .due) s → m ≡ value 0 c t e →
-      (l' ≡ ofLeft (c .right) (operated kind key amount) l) × (r' ≡ ofRight (c .right) (operated kind key amount) r) →
-      lent m l' r' g ≡ appended (c .first) kind key amount c s e l r g
+      (l' ≡ ofLeft (c .right) (operatedAll os) l) × (r' ≡ ofRight (c .right) (operatedAll os) r) →
+      lent m l' r' g ≡ appended (c .first) os c s e l r g
   appended-first x y h w =
       (λ i. lent ((h ∙ ap (λ (t : Slot). value 0 c t e) y) i) (w .0 i) (w .1 i) g)
-      ∙ ap (λ (f : Bool). appended f kind key amount c s e l r g) (sym x)
+      ∙ ap (λ (f : Bool). appended f os c s e l r g) (sym x)
 
   pub appended-later :
-      {m : Moved} {d : Control} {g' : List ℕ} →
-      c .first ≡ false → c .length < logRoom → d ≡ withLog (c .length + 1) (c .swapped) c → m ≡ value 0 d s e →
-      g' ≡ logged (c .length) kind key amount g → lent m l r g' ≡ appended (c .first) kind key amount c s e l r g
-  appended-later x k y h w =
-      (λ i. lent ((h ∙ ap (λ (d : Control). value 0 d s e) y) i) l r (w i))
-      ∙ later ∙ ap (λ (f : Bool). appended f kind key amount c s e l r g) (sym x)
-    where
-      later :
-          lent (value 0 (withLog (c .length + 1) (c .swapped) c) s e) l r (logged (c .length) kind key amount g)
-          ≡ appended false kind key amount c s e l r g
-      later = rw (appendLater, lt-ltb (c .length) logRoom k)
+      {m : Moved} {d : Control} {n : ℕ} {g' : List ℕ} →
+      c .first ≡ false → n ≡ length os → d ≡ withLog (c .length + n) (c .swapped) c → m ≡ value 0 d s e →
+      g' ≡ loggedAll (c .length) os g → lent m l r g' ≡ appended (c .first) os c s e l r g
+  appended-later x z y h w =
+      (λ i. lent ((h ∙ ap (λ (d : Control). value 0 d s e) (y ∙ ap (λ (n : ℕ). withLog (c .length + n) (c .swapped) c) z)) i) l r (w i))
+      ∙ ap (λ (f : Bool). appended f os c s e l r g) (sym x)
 
-  pub appended-full :
-      {m : Moved} → c .first ≡ false → logRoom ≤ c .length → m ≡ refused answer.LogFull c s e →
-      lent m l r g ≡ appended (c .first) kind key amount c s e l r g
-  appended-full x k h =
-      ap (λ (m : Moved). lent m l r g) h ∙ full ∙ ap (λ (f : Bool). appended f kind key amount c s e l r g) (sym x)
-    where
-      full : lent (refused answer.LogFull c s e) l r g ≡ appended false kind key amount c s e l r g
-      full = rw (appendLater, le-ltb (c .length) logRoom k)
+-- by the verdict on what speaks against it
+module _ (os : List Op) (c : Control) (s : Slot) {u f : Bool} {n : ℕ} {v : Verdict} (x : u ≡ lawfulBatch os) (z : n ≡ length os)
+    (y : f ≡ crowds n c) (h : v ≡ smallest (writerSigns 7 (not u) f c s))
+  where
+    abbrev signs : List Sign
+    signs = writerSigns 7 (not (lawfulBatch os)) (crowds (length os) c) c s
 
-  abbrev Judged : Verdict → Lent Moved
-  Judged v = elim v [ Admitted ↦ appended (c .first) kind key amount c s e l r g | Refused a ↦ lent (refused a c s e) l r g ]
+    signed : v ≡ smallest signs
+    signed = h ∙ (λ i. smallest (writerSigns 7 (not (x i)) ((y ∙ ap (λ (n : ℕ). crowds n c) z) i) c s))
 
-  -- by the verdict on what speaks against it
-  append-by :
-      {u f : Bool} {v w : Verdict} →
-      u ≡ lawful kind key amount → f ≡ (not (c .first) && leb logRoom (c .length)) → v ≡ smallest (writerSigns 7 (not u) f c s) →
-      v ≡ w → Judged w ≡ appendOn kind key amount c s e l r g
-  unfolding appendOn
-  append-by x y h q = ap Judged (sym q ∙ h ∙ (λ i. smallest (writerSigns 7 (not (x i)) (y i) c s)))
+    -- what one that is made was admitted by
+    pub append-fits : v ≡ Admitted → (allLawful os ≡ true) × (crowds (length os) c ≡ false)
+    append-fits q =
+        let a : smallest signs ≡ Admitted = sym signed ∙ q in (
+          both (leb (length os) batchRoom) (allLawful os) (not-false (lawfulBatch os) (silent 5 signs a)) .1,
+          silent 11 signs a,
+        )
 
-  module _ {u f : Bool} {v : Verdict} (x : u ≡ lawful kind key amount) (y : f ≡ (not (c .first) && leb logRoom (c .length)))
-      (h : v ≡ smallest (writerSigns 7 (not u) f c s))
-    where
-      pub append-admitted :
-          {o : Lent Moved} → v ≡ Admitted → o ≡ appended (c .first) kind key amount c s e l r g → o ≡ appendOn kind key amount c s e l r g
-      append-admitted q k = k ∙ append-by x y h q
+    module _ (e : ℕ) (l r g : List ℕ) where
+      abbrev Judged : Verdict → Lent Moved
+      Judged v = elim v [ Admitted ↦ appended (c .first) os c s e l r g | Refused a ↦ lent (refused a c s e) l r g ]
 
-      pub append-refused :
-          {a : Answer} {m : Moved} → v ≡ Refused a → m ≡ refused a c s e → lent m l r g ≡ appendOn kind key amount c s e l r g
-      append-refused q k = ap (λ (m : Moved). lent m l r g) k ∙ append-by x y h q
+      append-by : {w : Verdict} → v ≡ w → Judged w ≡ appendOn os c s e l r g
+      unfolding appendOn
+      append-by q = ap Judged (sym q ∙ signed)
+
+      pub append-admitted : {o : Lent Moved} → v ≡ Admitted → o ≡ appended (c .first) os c s e l r g → o ≡ appendOn os c s e l r g
+      append-admitted q k = k ∙ append-by q
+
+      pub append-refused : {a : Answer} {m : Moved} → v ≡ Refused a → m ≡ refused a c s e → lent m l r g ≡ appendOn os c s e l r g
+      append-refused q k = ap (λ (m : Moved). lent m l r g) k ∙ append-by q
 
 -- ---- publish, try, flush, take
 

@@ -7,6 +7,7 @@ use lib.ListN.{length, replicate, length-set, length-replicate}
 use Rattle.table.specs.Copy.{words}
 use Rattle.table.proofs.CopyFit.{fit-empty}
 use Rattle.table.proofs.Split.{below}
+use Rattle.table.specs.Order.{Op}
 use Rattle.read.specs.declared.Slot.{Slot}
 use Rattle.read.specs.declared.Control.{Control}
 use Rattle.read.specs.declared.State.{State}
@@ -19,8 +20,7 @@ use Rattle.read.specs.Calls.{Lent, lent, slotAt, withSlot, handleReply, createR
 use Rattle.write.specs.declared.Moved.{Moved}
 use Rattle.write.specs.declared.Opening.{Opening}
 use Rattle.write.specs.declared.Opening.the-variants as opening
-use Rattle.write.specs.declared.Call.{Call}
-use Rattle.write.specs.declared.Call.the-variants.{Create, On, Append, Open, Step, Run}
+use Rattle.write.specs.Call.{Call, Create, On, Append, Open, Step, Run}
 use Rattle.write.specs.Steps.{stepAt}
 use Rattle.write.specs.Begins.{stepSigns, appendOn, openOn, opened}
 use Rattle.write.specs.Runs.{snapAt, lift, stepOn, enough, runWhile, runOn}
@@ -89,15 +89,15 @@ module _ (st : State) (l r g : List ℕ) (h : Sound st l r g) where
   sound-handle : (i : ℕ) (k : Handle) → SoundOut (lent (handleReply i k l r st) l r g)
   sound-handle i k = below (λ (a : Reply). SoundOut (lent a l r g)) i slotCount (λ b. sound-slot i _ h) (λ b. h)
 
-  sound-append : (kind key amount : ℕ) → SoundOut (lift 0 st (appendOn kind key amount (st .control) (slotAt st 0) (snapAt st 0) l r g))
-  sound-append kind key amount =
+  sound-append : (os : List Op) → SoundOut (lift 0 st (appendOn os (st .control) (slotAt st 0) (snapAt st 0) l r g))
+  sound-append os =
       let c = st .control in
       let s = slotAt st 0 in
       let e = snapAt st 0 in
-      sound-lift 0 (appendOn kind key amount c s e l r g) h
+      sound-lift 0 (appendOn os c s e l r g) h
       (record {
-        whole = whole-append c (h .good .whole) s e kind key amount l r g;
-        words = words-append c s e l r g (h .good .words) kind key amount;
+        whole = whole-append c (h .good .whole) s e os l r g;
+        words = words-append c s e l r g (h .good .words) os;
       })
 
   sound-open : (o : Opening) → SoundOut (lift 0 st (lent (openOn o (st .control) (slotAt st 0) (snapAt st 0)) l r g))
@@ -136,7 +136,7 @@ pub sound-callOn : (k : Call) (st : State) (l r g : List ℕ) → Sound st l r g
 unfolding callOn runOn
 sound-callOn Create st l r g h = sound-create st l r g h (firstFree (st .slots))
 sound-callOn (On i k) st l r g h = sound-handle st l r g h i k
-sound-callOn (Append kind key amount) st l r g h = sound-append st l r g h kind key amount
+sound-callOn (Append os) st l r g h = sound-append st l r g h os
 sound-callOn (Open o) st l r g h = sound-open st l r g h o
 sound-callOn Step st l r g h = sound-going 12 stepOn st l r g h (sound-step st l r g h)
 sound-callOn Run st l r g h = sound-going 13 runOn st l r g h (sound-run enough 0 st l r g h)

@@ -11,6 +11,7 @@ use Rattle.table.specs.Answers.{number}
 use Rattle.table.specs.declared.Answer.{Answer}
 use Rattle.table.specs.declared.Answer.the-variants as answer
 use Rattle.table.proofs.Split.{by, below}
+use Rattle.table.specs.Order.{Op}
 use Rattle.read.specs.declared.Due.{Due}
 use Rattle.read.specs.declared.Due.the-variants.{Nothing, Load, Restore}
 use Rattle.read.specs.declared.Slot.{Slot}
@@ -27,8 +28,7 @@ use Rattle.read.specs.Calls.{Lent, lent, slotAt, withSlot, refusal, handleReply
 use Rattle.write.specs.declared.Moved.{Moved}
 use Rattle.write.specs.declared.Opening.{Opening}
 use Rattle.write.specs.declared.Opening.the-variants as opening
-use Rattle.write.specs.declared.Call.{Call}
-use Rattle.write.specs.declared.Call.the-variants.{Create, On, Append, Open, Step, Run}
+use Rattle.write.specs.Call.{Call, Create, On, Append, Open, Step, Run}
 use Rattle.write.specs.Steps.{refused, stepAt}
 use Rattle.write.specs.Begins.{stepSigns, appendOn, openOn, opened}
 use Rattle.write.specs.Runs.{snapAt, lift, stepOn, enough, runOn}
@@ -104,9 +104,9 @@ module _ (c : Control) (s : Slot) (e : ℕ) where
   kind-open o = open-cases (KindMoved c s e) o c s e (λ q. kind-opened o) (λ a h. kept a (h .0))
 
   module _ (l r g : List ℕ) where
-    kind-append : (kind key amount : ℕ) → KindMove c s e l r g (appendOn kind key amount c s e l r g)
-    kind-append kind key amount =
-        append-cases (KindMove c s e l r g) kind key amount c s e l r g (λ q h. made refl) (λ q u h. made refl) (λ a h. kept a (h .0))
+    kind-append : (os : List Op) → KindMove c s e l r g (appendOn os c s e l r g)
+    kind-append os =
+        append-cases (KindMove c s e l r g) os c s e l r g (λ q h. made refl) (λ q u h. made refl) (λ a h. kept a (h .0))
 
     kind-stepped : {m : Lent Moved} → Stepped c s e l r g m → KindMove c s e l r g m
     kind-stepped (done q) = made (ap number q)
@@ -207,7 +207,7 @@ ran-kind (inr h) = over h
 abbrev pub stillUpTo : Call → ℕ
 stillUpTo Create = 13
 stillUpTo (On i h) = 13
-stillUpTo (Append kind key amount) = 13
+stillUpTo (Append os) = 13
 stillUpTo (Open o) = 13
 stillUpTo Step = 13
 stillUpTo Run = 12
@@ -217,9 +217,9 @@ module _ (st : State) (l r g : List ℕ) where
   unfolding callOn runOn
   kind-callOn Create = kind-create st l r g (firstFree (st .slots))
   kind-callOn (On i h) = kind-on st l r g i h
-  kind-callOn (Append kind key amount) =
-      kind-lift st l r g 0 (appendOn kind key amount (st .control) (slotAt st 0) (snapAt st 0) l r g)
-      (kind-append (st .control) (slotAt st 0) (snapAt st 0) l r g kind key amount)
+  kind-callOn (Append os) =
+      kind-lift st l r g 0 (appendOn os (st .control) (slotAt st 0) (snapAt st 0) l r g)
+      (kind-append (st .control) (slotAt st 0) (snapAt st 0) l r g os)
   kind-callOn (Open o) =
       kind-begin st l r g (openOn o (st .control) (slotAt st 0) (snapAt st 0)) (kind-open (st .control) (slotAt st 0) (snapAt st 0) o)
   kind-callOn Step = kind-going st l r g 13 12 stepOn (λ v. kind-step st l r g (step-underway (st .control) v))
@@ -255,7 +255,7 @@ unbroken-kind h (over x) = (λ q. omega arith, λ q. omega arith)
 pub still-large : (k : Call) → 12 ≤ stillUpTo k
 still-large Create = omega arith
 still-large (On i h) = omega arith
-still-large (Append kind key amount) = omega arith
+still-large (Append os) = omega arith
 still-large (Open o) = omega arith
 still-large Step = omega arith
 still-large Run = omega arith

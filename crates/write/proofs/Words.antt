@@ -1,13 +1,15 @@
 -- The lent words: what every call is judged on, as facts, and that every step and append keeps it.
-use Prim.Native.Nat.{ℕ, _+_, _-_, _*_, _≤_, _<_}
+use Prim.Native.Nat.{ℕ, suc, _+_, _-_, _*_, _≤_, _<_}
 use mathlib.Core.Path.{_≡_, refl, sym, subst, _∙_}
 use mathlib.Core.Bool.{Bool, true, false}
-use mathlib.Core.List.{List, append-nil}
+use mathlib.Core.List.{List, [], _∷_, append-nil}
 use native.Mathlib.Omega.{arith}
 use lib.ListN.{length, getD, set, length-set, length-replicate, drop-of-length-le}
 use lib.Seq.{take-all, getD-set-same, getD-set-other}
 use borrow.Author.Tests.{le-leb}
 use Rattle.table.specs.Copy.{zeros, closed, lawful, Fit}
+use Rattle.table.specs.Order.{Op}
+use Rattle.table.proofs.Booleans.{both}
 use Rattle.table.proofs.Split.{split, under, below}
 use Rattle.table.proofs.Cases.{close-room, apply-made, apply-unlawful}
 use Rattle.table.proofs.CopyWords.{getD-zeros, length-closed, closed-moved}
@@ -23,7 +25,7 @@ use Rattle.read.specs.Handles.{copyOf}
 use Rattle.read.specs.Calls.{Lent}
 use Rattle.write.specs.declared.Moved.{Moved}
 use Rattle.write.specs.Steps.{ofLeft, ofRight, operated, logApplied, over, unlogged, snapping, swappedOver, holds, stopped, pollMove, lastPollMove, stepAt}
-use Rattle.write.specs.Begins.{logged, appendOn}
+use Rattle.write.specs.Begins.{allLawful, logged, operatedAll, loggedAll, appendOn}
 use Rattle.write.proofs.Cases.{snapping-cases, append-cases}
 use Rattle.write.proofs.Control.{Whole, Fits, fits}
 
@@ -40,6 +42,11 @@ fit-operated kind key amount w f =
     split (lawful kind key amount)
     (λ e. rw (operated, apply-made kind key amount w (fit-fits w f) e) (fit-applied kind key amount w f))
     (λ e. rw (operated, apply-unlawful kind key amount w (fit-fits w f) e) f)
+
+pub fit-operatedAll : (os : List Op) (w : List ℕ) → Fit w → Fit (operatedAll os w)
+fit-operatedAll [] w f = f
+fit-operatedAll (o ∷ os) w f =
+    fit-operatedAll os (operated (o .kind) (o .key) (o .amount) w) (fit-operated (o .kind) (o .key) (o .amount) w f)
 
 fit-logApplied : (g : List ℕ) (i : ℕ) (w : List ℕ) → Fit w → Fit (logApplied g i w)
 fit-logApplied g i w f = below Fit i logRoom (λ h. fit-operated _ _ _ w f) (λ h. f)
@@ -117,7 +124,7 @@ module _ (n kind key amount : ℕ) (g : List ℕ) (room : n < logRoom) (sized : 
       (rw (length-set (set g (3 * n) kind) (3 * n + 1) key, length-set g (3 * n) kind) (omega arith))
 
   lawful-logged :
-      lawful kind key amount ≡ true → ((i : ℕ) → i < n → lawfulAt g i ≡ true) → (i : ℕ) → i < n + 1 →
+      lawful kind key amount ≡ true → ((i : ℕ) → i < n → lawfulAt g i ≡ true) → (i : ℕ) → i < suc n →
       lawfulAt (logged n kind key amount g) i ≡ true
   lawful-logged new h i b =
       under i n
@@ -127,6 +134,19 @@ module _ (n kind key amount : ℕ) (g : List ℕ) (room : n < logRoom) (sized : 
       (λ u.
       let e : i ≡ n = omega arith in
       rw e ((λ k. lawful (kind-word k) (key-word k) (amount-word k)) ∙ new))
+
+-- more operations behind n others: what is asked of a log of n
+abbrev Logs : ℕ → List ℕ → Type 0
+Logs n g = (length g ≡ logWords) × ((i : ℕ) → i < n → lawfulAt g i ≡ true)
+
+logs-all : (os : List Op) (n : ℕ) (g : List ℕ) → n + length os ≤ logRoom → allLawful os ≡ true → Logs n g → Logs (n + length os) (loggedAll n os g)
+logs-all [] n g room lawfully h = subst (λ (m : ℕ). Logs m g) {x = n} {y = n + 0} (omega arith) h
+logs-all (o ∷ os) n g room lawfully h =
+    let u : n < logRoom = omega arith in
+    let v = both (lawful (o .kind) (o .key) (o .amount)) (allLawful os) lawfully in
+    subst (λ (m : ℕ). Logs m (loggedAll n (o ∷ os) g)) {x = suc n + length os} {y = n + suc (length os)} (omega arith)
+    (logs-all os (suc n) (logged n (o .kind) (o .key) (o .amount) g) (omega arith) (v .1)
+    (length-logged n (o .kind) (o .key) (o .amount) g u (h .0), lawful-logged n (o .kind) (o .key) (o .amount) g u (h .0) (v .0) (h .1)))
 
 -- ---- a step, and append
 
@@ -192,14 +212,10 @@ module _ (c : Control) (s : Slot) (e : ℕ) (l r g : List ℕ) (w : Words (c .le
   pub words-step : Whole c → WordsOf (stepAt (c .phase) c s e l r g)
   words-step v = words-stepAt v (c .phase) (fits v)
 
-  pub words-append : (kind key amount : ℕ) → WordsOf (appendOn kind key amount c s e l r g)
-  words-append kind key amount =
-      append-cases WordsOf kind key amount c s e l r g
-      (λ q h. words-copies (c .right) (operated kind key amount) (fit-operated kind key amount) w)
-      (λ q u h. record {
-        left = w .left;
-        right = w .right;
-        log = length-logged (c .length) kind key amount g u (w .log);
-        lawfully = lawful-logged (c .length) kind key amount g u (w .log) (h .lawfully) (w .lawfully);
-      })
+  pub words-append : (os : List Op) → WordsOf (appendOn os c s e l r g)
+  words-append os =
+      append-cases WordsOf os c s e l r g (λ q h. words-copies (c .right) (operatedAll os) (fit-operatedAll os) w)
+      (λ q u h.
+      let x = logs-all os (c .length) g u (h .lawfully) (w .log, w .lawfully) in
+      record { left = w .left; right = w .right; log = x .0; lawfully = x .1 })
       (λ a h. w)

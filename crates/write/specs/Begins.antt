@@ -1,10 +1,11 @@
 -- The writer's calls that are made at once: append, and the beginnings of publish, try, flush and take. They look at slot 0.
-use Prim.Native.Nat.{ℕ, _+_, _*_, _%_, _^_}
+use Prim.Native.Nat.{ℕ, suc, _+_, _*_, _%_, _^_}
 use mathlib.Core.Bool.{Bool, true, false, not, _&&_, _||_}
 use mathlib.Core.List.{List, [], _∷_}
-use lib.ListN.{set}
+use lib.ListN.{length, set}
 use lib.Dec.{eqb, ltb, leb}
 use Rattle.table.specs.Copy.{lawful}
+use Rattle.table.specs.Order.{Op}
 use Rattle.table.specs.declared.Answer.the-variants as answer
 use Rattle.read.specs.declared.Slot.{Slot}
 use Rattle.read.specs.declared.Phase.{Phase}
@@ -39,34 +40,55 @@ stepSigns column c = sign answer.Gone (isGone (c .phase)) ∷ sign answer.NotNow
 
 -- ---- append
 
+-- how many operations a call has at most
+abbrev pub batchRoom : ℕ
+batchRoom = 64
+
+-- each is as its kind asks
+abbrev pub allLawful : List Op → Bool
+allLawful [] = true
+allLawful (o ∷ os) = lawful (o .kind) (o .key) (o .amount) && allLawful os
+
+abbrev pub lawfulBatch : List Op → Bool
+lawfulBatch os = leb (length os) batchRoom && allLawful os
+
+-- while `first` nothing is logged; then n operations need room behind those that the log holds
+abbrev pub crowds : ℕ → Control → Bool
+crowds n c = not (c .first) && ltb logRoom (c .length + n)
+
 -- an operation behind n others
 abbrev pub logged : ℕ → ℕ → ℕ → ℕ → List ℕ → List ℕ
 logged n kind key amount g = set (set (set g (3 * n) kind) (3 * n + 1) key) (3 * n + 2) amount
 
+-- operations one after the other: applied, and behind n others in the log
+abbrev pub operatedAll : List Op → List ℕ → List ℕ
+operatedAll [] w = w
+operatedAll (o ∷ os) w = operatedAll os (operated (o .kind) (o .key) (o .amount) w)
+
+abbrev pub loggedAll : ℕ → List Op → List ℕ → List ℕ
+loggedAll n [] g = g
+loggedAll n (o ∷ os) g = loggedAll (suc n) os (logged n (o .kind) (o .key) (o .amount) g)
+
 abbrev pub madeAtOnce : Control → Slot → ℕ → Moved
 madeAtOnce c s e = record { answer = answer.Done; value = 0; control = c; slot = s; snapshot = e }
 
--- while `first`: at once to the copy not pointed at, and slot 0's epoch grows by 2
-abbrev pub appendFirst : ℕ → ℕ → ℕ → Control → Slot → ℕ → List ℕ → List ℕ → List ℕ → Lent Moved
-appendFirst kind key amount c s e l r g =
-    let f = operated kind key amount in
+-- while `first`: at once to the copy not pointed at, and slot 0's epoch grows by 2, whatever their number
+abbrev pub appendFirst : List Op → Control → Slot → ℕ → List ℕ → List ℕ → List ℕ → Lent Moved
+appendFirst os c s e l r g =
+    let f = operatedAll os in
     lent (madeAtOnce c (withDue ((s .epoch + 2) % 2 ^ 64) (s .due) s) e) (ofLeft (c .right) f l) (ofRight (c .right) f r) g
 
-abbrev pub appendLater : ℕ → ℕ → ℕ → Control → Slot → ℕ → List ℕ → List ℕ → List ℕ → Lent Moved
-appendLater kind key amount c s e l r g =
-    elim (ltb (c .length) logRoom) [
-      | true ↦ lent (madeAtOnce (withLog (c .length + 1) (c .swapped) c) s e) l r (logged (c .length) kind key amount g)
-      | false ↦ lent (refused answer.LogFull c s e) l r g
-    ]
+abbrev pub appendLater : List Op → Control → Slot → ℕ → List ℕ → List ℕ → List ℕ → Lent Moved
+appendLater os c s e l r g =
+    lent (madeAtOnce (withLog (c .length + length os) (c .swapped) c) s e) l r (loggedAll (c .length) os g)
 
-abbrev pub appended : Bool → ℕ → ℕ → ℕ → Control → Slot → ℕ → List ℕ → List ℕ → List ℕ → Lent Moved
-appended first kind key amount c s e l r g =
-    elim first [ true ↦ appendFirst kind key amount c s e l r g | false ↦ appendLater kind key amount c s e l r g ]
+abbrev pub appended : Bool → List Op → Control → Slot → ℕ → List ℕ → List ℕ → List ℕ → Lent Moved
+appended first os c s e l r g = elim first [ true ↦ appendFirst os c s e l r g | false ↦ appendLater os c s e l r g ]
 
-unfoldable pub appendOn : ℕ → ℕ → ℕ → Control → Slot → ℕ → List ℕ → List ℕ → List ℕ → Lent Moved
-appendOn kind key amount c s e l r g =
-    elim (smallest (writerSigns 7 (not (lawful kind key amount)) (not (c .first) && leb logRoom (c .length)) c s))
-    [ Admitted ↦ appended (c .first) kind key amount c s e l r g | Refused a ↦ lent (refused a c s e) l r g ]
+unfoldable pub appendOn : List Op → Control → Slot → ℕ → List ℕ → List ℕ → List ℕ → Lent Moved
+appendOn os c s e l r g =
+    elim (smallest (writerSigns 7 (not (lawfulBatch os)) (crowds (length os) c) c s))
+    [ Admitted ↦ appended (c .first) os c s e l r g | Refused a ↦ lent (refused a c s e) l r g ]
 
 -- ---- publish, try, flush, take
 

@@ -1,4 +1,5 @@
--- The rules, in the order to read them: the calls by number; one step; the beginnings; a run; every call; and a machine in its world.
+-- The rules, in the order to read them: the calls, and their numbers; one step; the beginnings; a run; every call; and a machine in its world.
+pub mod Call
 pub mod Numbers
 pub mod Steps
 pub mod Begins

@@ -8,8 +8,7 @@ use Rattle.read.specs.declared.Reply.{Reply}
 use Rattle.read.specs.Machine.{judged}
 use Rattle.read.specs.Handles.{smallest}
 use Rattle.read.specs.Calls.{Lent, lent, slotAt, refusal, handleReply, createReply, firstFree}
-use Rattle.write.specs.declared.Call.{Call}
-use Rattle.write.specs.declared.Call.the-variants.{Create, On, Append, Open, Step, Run}
+use Rattle.write.specs.Call.{Call, Create, On, Append, Open, Step, Run}
 use Rattle.write.specs.Begins.{stepSigns, appendOn, openOn}
 use Rattle.write.specs.Runs.{snapAt, lift, stepOn, runOn}
 
@@ -35,8 +34,7 @@ goingRule false = stepOn
 unfoldable pub callOn : Call → State → List ℕ → List ℕ → List ℕ → Lent Reply
 callOn Create st l r g = lent (createReply (firstFree (st .slots)) st) l r g
 callOn (On i h) st l r g = lent (handleReply i h l r st) l r g
-callOn (Append kind key amount) st l r g =
-    lift 0 st (appendOn kind key amount (st .control) (slotAt st 0) (snapAt st 0) l r g)
+callOn (Append os) st l r g = lift 0 st (appendOn os (st .control) (slotAt st 0) (snapAt st 0) l r g)
 callOn (Open o) st l r g = lift 0 st (lent (openOn o (st .control) (slotAt st 0) (snapAt st 0)) l r g)
 callOn Step st l r g = going 12 stepOn st l r g
 callOn Run st l r g = going 13 runOn st l r g

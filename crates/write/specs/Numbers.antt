@@ -1,13 +1,14 @@
--- A call by its number in a schedule, with the slot and the guard that it names.
+-- A call by its number in a schedule, with the slot and the guard that it names, and its operations. A batch, which has a number of its own
+-- there, is an append of many here.
 use Prim.Native.Nat.{ℕ}
-use mathlib.Core.Bool.{Bool, true, _&&_}
+use mathlib.Core.Bool.{Bool, _&&_}
+use mathlib.Core.List.{List, []}
 use lib.Dec.{eqb, leb}
-use Rattle.table.specs.Copy.{lawful}
+use Rattle.table.specs.Order.{Op}
 use Rattle.read.specs.Admission.{handleNumber, guardNamed}
 use Rattle.write.specs.declared.Opening.{Opening}
 use Rattle.write.specs.declared.Opening.the-variants.{Publish, Try, Flush, Take}
-use Rattle.write.specs.declared.Call.{Call}
-use Rattle.write.specs.declared.Call.the-variants.{Create, On, Append, Open, Step, Run}
+use Rattle.write.specs.Call.{Call, Create, On, Append, Open, Step, Run}
 
 abbrev pub openingNumber : Opening → ℕ
 openingNumber Publish = 9
@@ -18,7 +19,7 @@ openingNumber Take = 12
 abbrev pub callNumber : Call → ℕ
 callNumber Create = 1
 callNumber (On i h) = handleNumber h
-callNumber (Append kind key amount) = 8
+callNumber (Append os) = 8
 callNumber (Open o) = openingNumber o
 callNumber Step = 13
 callNumber Run = 14
@@ -45,7 +46,7 @@ isTake o = is 12 (Open o)
 abbrev pub slotOf : Call → ℕ
 slotOf Create = 0
 slotOf (On i h) = i
-slotOf (Append kind key amount) = 0
+slotOf (Append os) = 0
 slotOf (Open o) = 0
 slotOf Step = 0
 slotOf Run = 0
@@ -53,16 +54,16 @@ slotOf Run = 0
 abbrev pub guardOf : Call → ℕ
 guardOf Create = 0
 guardOf (On i h) = guardNamed h
-guardOf (Append kind key amount) = 0
+guardOf (Append os) = 0
 guardOf (Open o) = 0
 guardOf Step = 0
 guardOf Run = 0
 
--- kind, key and amount are an operation's; a call that has none is lawful
-abbrev pub isLawful : Call → Bool
-isLawful Create = true
-isLawful (On i h) = true
-isLawful (Append kind key amount) = lawful kind key amount
-isLawful (Open o) = true
-isLawful Step = true
-isLawful Run = true
+-- the operations of a call; one that appends none has none
+abbrev pub opsOf : Call → List Op
+opsOf Create = []
+opsOf (On i h) = []
+opsOf (Append os) = os
+opsOf (Open o) = []
+opsOf Step = []
+opsOf Run = []

@@ -16,15 +16,17 @@ use read::handles;
 use read::truth;
 use table::Answer;
 ghost use mathlib.Core.Path.{_≡_};
-ghost use mathlib.Core.Bool.{true, not, _&&_, _||_};
+ghost use mathlib.Core.Bool.{true, false};
+ghost use mathlib.Core.List.{[], _∷_};
 ghost use Prim.Native.Nat.{_+_, _%_, _^_};
-ghost use lib.Dec.{ltb, leb};
-ghost use Rattle.table.specs.Copy.{lawful};
-ghost use Rattle.read.specs.Machine.{standing, isGone, logRoom};
+ghost use lib.ListN.{length};
+ghost use Rattle.table.specs.Order.{op};
+ghost use Rattle.read.specs.Machine.{standing, isGone};
 ghost use Rattle.read.specs.Handles.{smallest, withDue};
 ghost use Rattle.read.specs.Calls.{lent};
 ghost use Rattle.write.specs.Steps.{polling, beginning};
-ghost use Rattle.write.specs.Begins.{writerSigns, stepSigns, appended as appendedRule, appendOn, columnOf, begun as begunRule, value as valueRule, taking as takingRule, opened as openedRule, openOn};
+ghost use Rattle.write.specs.Call.{opsIn};
+ghost use Rattle.write.specs.Begins.{writerSigns, stepSigns, allLawful, crowds as crowdsRule, appended as appendedRule, appendOn, columnOf, begun as begunRule, value as valueRule, taking as takingRule, opened as openedRule, openOn};
 
 // The row of the phase after take's finish, in the table of admissions.
 const GONE: usize = 13;
@@ -95,9 +97,7 @@ fn value(v: u64, c: Control, s: Slot, e: u64) -> Moved
 
 // While `first` at once to the copy that the pointer does not name, and later into the log.
 fn appended(
-    kind: u64,
-    key: u64,
-    amount: u64,
+    ops: &[u64],
     c: Control,
     s: Slot,
     e: u64,
@@ -105,31 +105,58 @@ fn appended(
     right: &mut [u64],
     log: &mut [u64],
 ) -> Moved
-    ensures { λ r. ⌜ lent r (now (left .exit)) (now (right .exit)) (now (log .exit)) ≡ appendedRule (c .first) kind key amount c s e (now (left .entry)) (now (right .entry)) (now (log .entry)) ⌝ }
+    requires { ⌜ (allLawful (opsIn (now ops)) ≡ true) × (crowdsRule (length (opsIn (now ops))) c ≡ false) ⌝ }
+    ensures { λ r. ⌜ lent r (now (left .exit)) (now (right .exit)) (now (log .exit)) ≡ appendedRule (c .first) (opsIn (now (ops .entry))) c s e (now (left .entry)) (now (right .entry)) (now (log .entry)) ⌝ }
 {
     if c.first {
-        slices::operate(c.right, kind, key, amount, left, right);
+        slices::operate(c.right, ops, left, right);
         return value(0, c, stirred(s), e);
     }
     let n = c.length;
-    if n < LOG_ROOM {
-        slices::enlog(log, n, kind, key, amount);
-        return value(0, phases::with_log(n + 1, c.swapped, c), s, e);
-    }
-    steps::refused(Answer::LogFull, c, s, e)
+    slices::enlog(log, n, ops);
+    value(
+        0,
+        phases::with_log(n + slices::count(ops), c.swapped, c),
+        s,
+        e,
+    )
 }
 
-// The log has no room, and is what an append goes to.
-fn is_full(c: Control) -> bool
-    ensures { λ r. ⌜ r ≡ (not (c .first) && leb logRoom (c .length)) ⌝ }
+// The log has no room for `n` operations, and is what they go to.
+fn crowds(n: usize, c: Control) -> bool
+    ensures { λ r. ⌜ r ≡ crowdsRule n c ⌝ }
 {
     if c.first {
         return false;
     }
-    LOG_ROOM <= c.length
+    if LOG_ROOM < c.length {
+        return true;
+    }
+    LOG_ROOM - c.length < n
 }
 
-// Append: an operation, refused or made.
+// Operations in words, three each: all of them refused, or made.
+pub fn extend_on(
+    ops: &[u64],
+    c: Control,
+    s: Slot,
+    e: u64,
+    left: &mut [u64],
+    right: &mut [u64],
+    log: &mut [u64],
+) -> Moved
+    ensures { λ r. ⌜ lent r (now (left .exit)) (now (right .exit)) (now (log .exit)) ≡ appendOn (opsIn (now (ops .entry))) c s e (now (left .entry)) (now (right .entry)) (now (log .entry)) ⌝ }
+{
+    let unlawful = !slices::lawful_batch(ops);
+    let full = crowds(slices::count(ops), c);
+    let v = writer_verdict(7, unlawful, full, c, s);
+    match v {
+        Verdict::Admitted => appended(ops, c, s, e, left, right, log),
+        Verdict::Refused(a) => steps::refused(a, c, s, e),
+    }
+}
+
+// Append: one operation.
 pub fn append_on(
     kind: u64,
     key: u64,
@@ -141,14 +168,10 @@ pub fn append_on(
     right: &mut [u64],
     log: &mut [u64],
 ) -> Moved
-    ensures { λ r. ⌜ lent r (now (left .exit)) (now (right .exit)) (now (log .exit)) ≡ appendOn kind key amount c s e (now (left .entry)) (now (right .entry)) (now (log .entry)) ⌝ }
+    ensures { λ r. ⌜ lent r (now (left .exit)) (now (right .exit)) (now (log .exit)) ≡ appendOn (op kind key amount ∷ []) c s e (now (left .entry)) (now (right .entry)) (now (log .entry)) ⌝ }
 {
-    let unlawful = !table::lawful(kind, key, amount);
-    let v = writer_verdict(7, unlawful, is_full(c), c, s);
-    match v {
-        Verdict::Admitted => appended(kind, key, amount, c, s, e, left, right, log),
-        Verdict::Refused(a) => steps::refused(a, c, s, e),
-    }
+    let ops = [kind, key, amount];
+    extend_on(&ops, c, s, e, left, right, log)
 }
 
 // ---- publish, try, flush, take

@@ -6,7 +6,6 @@ mod slices;
 pub mod steps;
 
 use read::Control;
-use read::Handle;
 use read::Slot;
 use table::Answer;
 
@@ -25,14 +24,4 @@ pub enum Opening {
     Try,
     Flush,
     Take,
-}
-
-// Every call on the machine. On says which slot; append has kind, key and amount.
-pub enum Call {
-    Create,
-    On(usize, Handle),
-    Append(u64, u64, u64),
-    Open(Opening),
-    Step,
-    Run,
 }

@@ -1,13 +1,15 @@
 // The lent words: what a step or an append does to the copy that the pointer does not name, and to the log.
 use read::LOG_ROOM;
 ghost use mathlib.Core.Path.{_≡_};
-ghost use Prim.Native.Nat.{_<_};
-ghost use lib.ListN.{getD, set};
+ghost use mathlib.Core.Bool.{true};
+ghost use Prim.Native.Nat.{_+_, _≤_, _<_};
+ghost use lib.ListN.{length, getD, set};
 ghost use Rattle.table.specs.Copy.{zeros};
 ghost use Rattle.read.specs.Machine.{logRoom};
 ghost use Rattle.read.specs.Handles.{copyOf};
-ghost use Rattle.write.specs.Steps.{ofLeft, ofRight, operated, logApplied, over, unlogged};
-ghost use Rattle.write.specs.Begins.{logged};
+ghost use Rattle.write.specs.Steps.{ofLeft, ofRight, logApplied, over, unlogged};
+ghost use Rattle.write.specs.Call.{opsIn};
+ghost use Rattle.write.specs.Begins.{allLawful, lawfulBatch, logged, operatedAll, loggedAll};
 
 // A word of the log, or 0 behind its end.
 fn fetch(log: &[u64], i: usize) -> u64
@@ -46,22 +48,67 @@ fn copy_over(from: &[u64], to: &mut [u64])
     }
 }
 
+// ---- operations in words, three each
+
+// How many words operations may have.
+const MOST: usize = 3 * 64;
+
+// How many operations there are, one that is cut short too.
+pub(crate) fn count(ops: &[u64]) -> usize
+    ensures { λ r. ⌜ r ≡ length (opsIn (now (ops .entry))) ⌝ }
+{
+    let n = ops.len() / 3;
+    if ops.len() % 3 == 0 {
+        return n;
+    }
+    n + 1
+}
+
+// Each is whole, and as its kind asks.
+fn all_lawful(ops: &[u64]) -> bool
+    ensures { λ r. ⌜ r ≡ allLawful (opsIn (now (ops .entry))) ⌝ }
+{
+    let mut i = 0;
+    while i + 2 < ops.len() {
+        if !table::lawful(ops[i], ops[i + 1], ops[i + 2]) {
+            return false;
+        }
+        i += 3;
+    }
+    ops.len() <= i
+}
+
+pub(crate) fn lawful_batch(ops: &[u64]) -> bool
+    ensures { λ r. ⌜ r ≡ lawfulBatch (opsIn (now (ops .entry))) ⌝ }
+{
+    if MOST < ops.len() {
+        return false;
+    }
+    all_lawful(ops)
+}
+
+// One after the other; a last one that is cut short is none.
+fn apply_all(w: &mut [u64], ops: &[u64])
+    requires { ⌜ allLawful (opsIn (now ops)) ≡ true ⌝ }
+    ensures { λ _. ⌜ now (w .exit) ≡ operatedAll (opsIn (now (ops .entry))) (now (w .entry)) ⌝ }
+{
+    let mut i = 0;
+    while i + 2 < ops.len() {
+        table::apply(w, ops[i], ops[i + 1], ops[i + 2]);
+        i += 3;
+    }
+}
+
 // ---- on the copy that the pointer does not name; `side`: it names the right one
 
-pub(crate) fn operate(
-    side: bool,
-    kind: u64,
-    key: u64,
-    amount: u64,
-    left: &mut [u64],
-    right: &mut [u64],
-)
-    ensures { λ _. ⌜ (now (left .exit) ≡ ofLeft side (operated kind key amount) (now (left .entry))) × (now (right .exit) ≡ ofRight side (operated kind key amount) (now (right .entry))) ⌝ }
+pub(crate) fn operate(side: bool, ops: &[u64], left: &mut [u64], right: &mut [u64])
+    requires { ⌜ allLawful (opsIn (now ops)) ≡ true ⌝ }
+    ensures { λ _. ⌜ (now (left .exit) ≡ ofLeft side (operatedAll (opsIn (now (ops .entry)))) (now (left .entry))) × (now (right .exit) ≡ ofRight side (operatedAll (opsIn (now (ops .entry)))) (now (right .entry))) ⌝ }
 {
     if side {
-        table::apply(left, kind, key, amount);
+        apply_all(left, ops);
     } else {
-        table::apply(right, kind, key, amount);
+        apply_all(right, ops);
     }
 }
 
@@ -119,7 +166,7 @@ fn put(log: &mut [u64], i: usize, x: u64)
 }
 
 // An operation behind `n` others.
-pub(crate) fn enlog(log: &mut [u64], n: usize, kind: u64, key: u64, amount: u64)
+fn enlog_one(log: &mut [u64], n: usize, kind: u64, key: u64, amount: u64)
     requires { ⌜ n < logRoom ⌝ }
     ensures { λ _. ⌜ now (log .exit) ≡ logged n kind key amount (now (log .entry)) ⌝ }
 {
@@ -127,4 +174,18 @@ pub(crate) fn enlog(log: &mut [u64], n: usize, kind: u64, key: u64, amount: u64)
     put(log, at, kind);
     put(log, at + 1, key);
     put(log, at + 2, amount);
+}
+
+// Operations behind `n` others.
+pub(crate) fn enlog(log: &mut [u64], n: usize, ops: &[u64])
+    requires { ⌜ (n + length (opsIn (now ops)) ≤ logRoom) × (allLawful (opsIn (now ops)) ≡ true) ⌝ }
+    ensures { λ _. ⌜ now (log .exit) ≡ loggedAll n (opsIn (now (ops .entry))) (now (log .entry)) ⌝ }
+{
+    let mut n = n;
+    let mut i = 0;
+    while i + 2 < ops.len() {
+        enlog_one(log, n, ops[i], ops[i + 1], ops[i + 2]);
+        n += 1;
+        i += 3;
+    }
 }

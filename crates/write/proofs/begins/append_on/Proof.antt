@@ -1,10 +1,9 @@
--- What speaks against the call decides.
+-- A batch of one.
 use native.Mathlib.Omega.{arith}
-use Rattle.table.proofs.Needs.{all10}
-use Rattle.write.proofs.Made.{append-admitted, append-refused}
+use borrow.Author.Needs.{needs}
+use Rattle.table.proofs.Needs.{all5}
 use Rattle.write.proofs.begins.append_on.Statement.{statement}
 use Rattle.write.proofs.begins.append_on.Tie as tie
 
 pub append-on-spec : {M : Type 1} → statement M
-append-on-spec =
-    tie.close (all10 tie.spec (omega arith) (λ c. search append-admitted) (λ c. search append-refused))
+append-on-spec = tie.close (all5 tie.spec (omega arith) (λ c. search needs))

@@ -1,0 +1,19 @@
+-- What speaks against the call decides.
+use native.Mathlib.Omega.{arith}
+use borrow.Author.Needs.{needs}
+use Rattle.table.proofs.Needs.{all5}
+use Rattle.write.specs.Call.{opsIn}
+use Rattle.write.proofs.Made.{append-fits, append-admitted, append-refused}
+use Rattle.write.proofs.begins.extend_on.Statement.{statement}
+use Rattle.write.proofs.begins.extend_on.Tie as tie
+
+appended-requires : tie.Need-appended-requires
+appended-requires c κs =
+    let v = c .before .before .before .before .before in
+    let b = v .before .before .before in
+    let a = b .before .before .before .before .before .args in
+    append-fits (opsIn (a .ops .now)) (a .c) (a .s) (b .lawful-batch .ensures) (v .before .before .count .ensures) (v .before .crowds .ensures) (v .writer-verdict .ensures) (c .before .before .before .enum-told .given .1)
+
+pub extend-on-spec : {M : Type 1} → statement M
+extend-on-spec =
+    tie.close (all5 (all5 tie.spec (omega arith) appended-requires) (omega arith) (λ c. search append-admitted) (λ c. search append-refused))
