@@ -5,8 +5,7 @@ use mathlib.Core.Bool.{false}
 use Rattle.read.specs.declared.Handle.{Handle}
 use Rattle.read.specs.declared.Handle.the-variants.{Drop, Enter, GoOn, Release, LookUp, WasDropped}
 use Rattle.write.specs.declared.Opening.{Opening}
-use Rattle.write.specs.declared.Call.{Call}
-use Rattle.write.specs.declared.Call.the-variants.{On, Open}
+use Rattle.write.specs.Call.{Call, On, Open}
 use Rattle.write.specs.declared.Opening.the-variants as opening
 use Rattle.write.specs.Numbers.{isStep, isRun}
 

@@ -21,7 +21,7 @@ use Rattle.read.specs.declared.Handle.the-variants.{LookUp}
 use Rattle.read.specs.Machine.{slotCount, sized, judged, fresh}
 use Rattle.read.specs.Handles.{Sign, smallest, handleSigns, guardedCopy, handled, handleOn}
 use Rattle.read.specs.Calls.{Lent, lent, slotAt, withSlot, refusal, handleReply, handleRule, createReply, createRule, firstFree, throughRule, viewRule, pairRule, startRule}
-use Rattle.write.specs.declared.Call.the-variants.{Create, On}
+use Rattle.write.specs.Call.{Create, On}
 use Rattle.write.specs.Machine.{callOn, callRule}
 use Rattle.write.specs.World.{World, reply, worldOf, answerOf, valueOf}
 use Rattle.demands.specs.Demand1.{Lengths, Starts}

@@ -5,7 +5,7 @@ use lib.ListN.{length-set}
 use Rattle.read.specs.declared.Slot.{Slot}
 use Rattle.read.specs.declared.Reply.{Reply}
 use Rattle.read.specs.Calls.{Lent, withSlot}
-use Rattle.write.specs.declared.Call.{Call}
+use Rattle.write.specs.Call.{Call}
 use Rattle.write.specs.Machine.{callOn, callRule}
 use Rattle.write.specs.World.{World, reply, next}
 use Rattle.write.proofs.NeverBroken.{Sound, call-made, sound-call}

@@ -16,8 +16,7 @@ use Rattle.read.specs.Handles.{smallest}
 use Rattle.read.specs.Calls.{Lent, lent, slotAt, refusal}
 use Rattle.write.specs.declared.Moved.{Moved}
 use Rattle.write.specs.declared.Opening.{Opening}
-use Rattle.write.specs.declared.Call.{Call}
-use Rattle.write.specs.declared.Call.the-variants.{Append, Open}
+use Rattle.write.specs.Call.{Call, Append, Open}
 use Rattle.write.specs.Begins.{stepSigns, appendOn, openOn}
 use Rattle.write.specs.Runs.{snapAt, putBack, lift}
 use Rattle.write.specs.Machine.{going, goes, goingColumn, goingRule, callOn, callRule}

@@ -2,7 +2,7 @@
 use Prim.Native.Nat.{ℕ, _-_}
 use mathlib.Core.Path.{_≡_, sym, ap}
 use lib.ListN.{getD}
-use Rattle.write.specs.declared.Call.the-variants.{Run}
+use Rattle.write.specs.Call.{Run}
 use Rattle.format.specs.declared.Fields.{Fields}
 use Rattle.play.specs.Schedule.{callsBy, callOf}
 

@@ -26,8 +26,7 @@ use Rattle.read.specs.Admission.{entry, notNow}
 use Rattle.read.specs.Handles.{bit, smallest}
 use Rattle.read.specs.Calls.{Lent, lent, refusal}
 use Rattle.write.specs.declared.Moved.{Moved}
-use Rattle.write.specs.declared.Call.{Call}
-use Rattle.write.specs.declared.Call.the-variants.{Create, On, Append, Open, Step, Run}
+use Rattle.write.specs.Call.{Call, Create, On, Append, Open, Step, Run}
 use Rattle.write.specs.Steps.{holds, refused, moved, stopped, lastPollMove, stepAt, at, polling}
 use Rattle.write.specs.Begins.{stepSigns}
 use Rattle.write.specs.Runs.{lift, stepOn, afterStep, runOn}

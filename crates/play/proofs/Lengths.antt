@@ -9,7 +9,7 @@ use Rattle.read.specs.declared.State.{State}
 use Rattle.read.specs.declared.Verdict.the-variants.{Admitted}
 use Rattle.read.specs.Machine.{logWords, fresh, judged}
 use Rattle.read.specs.Calls.{Lent}
-use Rattle.write.specs.declared.Call.{Call}
+use Rattle.write.specs.Call.{Call}
 use Rattle.write.specs.World.{World, Machine, freshWorld, worldOf, reply, played}
 use Rattle.write.specs.Machine.{callRule}
 use Rattle.write.proofs.NeverBroken.{sound-fresh, sound-judged}

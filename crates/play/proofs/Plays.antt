@@ -15,7 +15,7 @@ use Rattle.read.specs.declared.Verdict.the-variants.{Admitted}
 use Rattle.read.specs.Machine.{slotCount, noSlot, judged}
 use Rattle.read.specs.Calls.{Lent, lent}
 use Rattle.write.specs.declared.Moved.{Moved}
-use Rattle.write.specs.declared.Call.{Call}
+use Rattle.write.specs.Call.{Call}
 use Rattle.write.specs.Numbers.{slotOf}
 use Rattle.write.specs.Machine.{callOn, callRule}
 use Rattle.write.specs.World.{World, worldOf, answerOf, valueOf, Played, answering, played}

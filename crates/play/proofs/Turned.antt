@@ -26,8 +26,7 @@ use Rattle.read.proofs.Cases.{stateOf, reply-past, reply-in, create-refused, cr
 use Rattle.read.specs.Machine.{slotTotal, slotCount, logRoom, noSlot, newSlot}
 use Rattle.read.specs.Handles.{smallest, withDue, handleOn}
 use Rattle.read.specs.Calls.{Lent, lent, slotAt, refusal, createReply, handleReply}
-use Rattle.write.specs.declared.Call.{Call}
-use Rattle.write.specs.declared.Call.the-variants.{Create, On, Append, Open, Step, Run}
+use Rattle.write.specs.Call.{Call, Create, On, Append, Open, Step, Run}
 use Rattle.write.specs.declared.Moved.{Moved}
 use Rattle.write.specs.declared.Opening.{Opening}
 use Rattle.write.specs.declared.Opening.the-variants as opening

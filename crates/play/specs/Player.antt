@@ -6,7 +6,7 @@ use lib.ListN.{length, drop}
 use lib.Dec.{eqb, leb}
 use Rattle.read.specs.declared.State.{State}
 use Rattle.read.specs.Calls.{Lent, lent}
-use Rattle.write.specs.declared.Call.{Call}
+use Rattle.write.specs.Call.{Call}
 use Rattle.write.specs.Machine.{callRule}
 use Rattle.write.specs.World.{World, freshWorld, played}
 use Rattle.play.specs.declared.Reached.{Reached}

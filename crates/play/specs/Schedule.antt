@@ -4,8 +4,7 @@ use mathlib.Core.List.{List, [], _∷_}
 use lib.ListN.{length, getD, drop}
 use Rattle.read.specs.declared.Handle.the-variants.{Drop, Enter, GoOn, Release, LookUp, WasDropped}
 use Rattle.write.specs.declared.Opening.the-variants.{Publish, Try, Flush, Take}
-use Rattle.write.specs.declared.Call.{Call}
-use Rattle.write.specs.declared.Call.the-variants.{Create, On, Append, Open, Step, Run}
+use Rattle.write.specs.Call.{Call, Create, On, Append, Open, Step, Run}
 use Rattle.format.specs.declared.Fields.{Fields}
 use Rattle.format.specs.Schedule.{headBytes, recordBytes, fieldsAt}
 

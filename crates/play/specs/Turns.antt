@@ -18,8 +18,7 @@ use Rattle.read.specs.Admission.{createColumn, entry}
 use Rattle.read.specs.Handles.{handleOn}
 use Rattle.read.specs.Calls.{Lent, lent}
 use Rattle.write.specs.declared.Moved.{Moved}
-use Rattle.write.specs.declared.Call.{Call}
-use Rattle.write.specs.declared.Call.the-variants.{Create, On, Append, Open, Step, Run}
+use Rattle.write.specs.Call.{Call, Create, On, Append, Open, Step, Run}
 use Rattle.write.specs.Begins.{appendOn, openOn}
 use Rattle.write.specs.Steps.{holds}
 use Rattle.play.specs.declared.turns.Far.{Far}

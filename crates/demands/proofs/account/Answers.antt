@@ -24,8 +24,7 @@ use Rattle.read.specs.Handles.{smallest, handleSigns, Sign}
 use Rattle.read.specs.Calls.{createSigns}
 use Rattle.read.proofs.Phases.{underway-stays, gone-is, idle-is}
 use Rattle.write.specs.declared.Opening.{Opening}
-use Rattle.write.specs.declared.Call.{Call}
-use Rattle.write.specs.declared.Call.the-variants.{Create, On, Append, Open, Step}
+use Rattle.write.specs.Call.{Call, Create, On, Append, Open, Step}
 use Rattle.write.specs.declared.Opening.the-variants as opening
 use Rattle.write.specs.Begins.{writerSigns, stepSigns, columnOf}
 use Rattle.write.proofs.Control.{Whole}

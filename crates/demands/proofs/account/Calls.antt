@@ -35,8 +35,7 @@ use Rattle.read.specs.Calls.{Lent, lent, slotAt, withSlot, createSigns, firstFr
 use Rattle.read.proofs.Verdicts.{silent, Refusal, refused-mild}
 use Rattle.write.specs.declared.Moved.{Moved}
 use Rattle.write.specs.declared.Opening.{Opening}
-use Rattle.write.specs.declared.Call.{Call}
-use Rattle.write.specs.declared.Call.the-variants.{Create, On, Append, Open, Step, Run}
+use Rattle.write.specs.Call.{Call, Create, On, Append, Open, Step, Run}
 use Rattle.write.specs.declared.Opening.the-variants as opening
 use Rattle.write.specs.Steps.{at, polling, withLog}
 use Rattle.write.specs.Begins.{writerSigns, columnOf, logged, madeAtOnce, appendFirst, appendOn, begun, taking, opened, openOn}

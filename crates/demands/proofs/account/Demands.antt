@@ -23,8 +23,7 @@ use Rattle.read.specs.Handles.{smallest, handleSigns, guardedCopy, copyOf, Sign
 use Rattle.read.specs.Calls.{slotAt, throughRule}
 use Rattle.read.proofs.Verdicts.{mild, refused-mild}
 use Rattle.read.proofs.Phases.{gone-is, idle-or-gone}
-use Rattle.write.specs.declared.Call.{Call}
-use Rattle.write.specs.declared.Call.the-variants.{Create, On, Append, Open, Step, Run}
+use Rattle.write.specs.Call.{Call, Create, On, Append, Open, Step, Run}
 use Rattle.write.specs.Runs.{snapAt}
 use Rattle.write.specs.Machine.{callOn, callRule}
 use Rattle.write.specs.World.{World, freshWorld, reply, next, answerOf, valueOf}

@@ -21,8 +21,7 @@ use Rattle.read.specs.Machine.{underway, isGone, locks}
 use Rattle.read.specs.Admission.{handleNumber, column, entry, notNow, locked as lockedNo}
 use Rattle.read.specs.Handles.{Sign, smallest}
 use Rattle.read.proofs.Phases.{idle-or-gone}
-use Rattle.write.specs.declared.Call.{Call}
-use Rattle.write.specs.declared.Call.the-variants.{Create, On, Append, Open, Step, Run}
+use Rattle.write.specs.Call.{Call, Create, On, Append, Open, Step, Run}
 use Rattle.write.specs.declared.Opening.the-variants as opening
 use Rattle.write.specs.Numbers.{is, among, isStep}
 use Rattle.write.proofs.Control.{Whole}

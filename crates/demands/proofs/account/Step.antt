@@ -27,7 +27,7 @@ use Rattle.read.specs.Handles.{smallest, freed, bit}
 use Rattle.read.specs.Calls.{Lent, lent, slotAt}
 use Rattle.read.proofs.Verdicts.{refused-mild}
 use Rattle.write.specs.declared.Moved.{Moved}
-use Rattle.write.specs.declared.Call.the-variants.{Step}
+use Rattle.write.specs.Call.{Step}
 use Rattle.write.specs.Steps.{holds, seen, pollMove, lastPollMove, stepAt}
 use Rattle.write.specs.Begins.{stepSigns}
 use Rattle.write.specs.Scans.{polls}

@@ -11,7 +11,7 @@ use Rattle.read.specs.Admission.{entry, notNow}
 use Rattle.read.specs.Handles.{smallest}
 use Rattle.read.specs.Calls.{Lent}
 use Rattle.read.proofs.Phases.{underway-stays}
-use Rattle.write.specs.declared.Call.the-variants.{Step, Run}
+use Rattle.write.specs.Call.{Step, Run}
 use Rattle.write.specs.Begins.{stepSigns}
 use Rattle.write.specs.Runs.{stepOn, runOn}
 use Rattle.write.specs.Machine.{callOn, going}

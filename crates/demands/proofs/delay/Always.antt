@@ -11,7 +11,7 @@ use Rattle.read.specs.declared.Due.{Due}
 use Rattle.read.specs.declared.Due.the-variants.{Nothing, Load, Restore}
 use Rattle.read.specs.declared.Handle.{Handle}
 use Rattle.read.specs.declared.Handle.the-variants.{GoOn, Release}
-use Rattle.write.specs.declared.Call.the-variants.{On}
+use Rattle.write.specs.Call.{On}
 use Rattle.write.specs.World.{Machine, reply, answerOf, valueOf}
 use Rattle.demands.specs.Account.{delays, Reader, isOdd, inside, turned, closes, spoke}
 use Rattle.demands.specs.Follows.{readerAfter, Leaves, MovedOn, Always}

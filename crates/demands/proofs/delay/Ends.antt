@@ -20,8 +20,7 @@ use Rattle.read.specs.Machine.{slotCount, underway}
 use Rattle.read.specs.Handles.{bit}
 use Rattle.read.specs.Calls.{Lent}
 use Rattle.write.specs.declared.Opening.{Opening}
-use Rattle.write.specs.declared.Call.{Call}
-use Rattle.write.specs.declared.Call.the-variants.{Create, On, Append, Open, Step, Run}
+use Rattle.write.specs.Call.{Call, Create, On, Append, Open, Step, Run}
 use Rattle.write.specs.declared.Opening.the-variants as opening
 use Rattle.write.specs.Numbers.{is, among, isStep, isRun, isTry, isTake}
 use Rattle.write.specs.Machine.{callRule}

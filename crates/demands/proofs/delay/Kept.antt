@@ -19,8 +19,7 @@ use Rattle.read.specs.declared.Handle.the-variants.{Drop, Enter, GoOn, Release,
 use Rattle.read.specs.Machine.{slotCount}
 use Rattle.read.specs.Admission.{handleNumber}
 use Rattle.write.specs.declared.Opening.{Opening}
-use Rattle.write.specs.declared.Call.{Call}
-use Rattle.write.specs.declared.Call.the-variants.{Create, On, Append, Open, Step, Run}
+use Rattle.write.specs.Call.{Call, Create, On, Append, Open, Step, Run}
 use Rattle.write.specs.declared.Opening.the-variants as opening
 use Rattle.write.specs.Numbers.{is}
 use Rattle.write.specs.World.{Machine, reply, answerOf, valueOf}

@@ -17,7 +17,7 @@ use Rattle.read.specs.Handles.{smallest}
 use Rattle.read.specs.Calls.{slotAt}
 use Rattle.read.proofs.Phases.{underway-stays}
 use Rattle.write.specs.declared.Opening.{Opening}
-use Rattle.write.specs.declared.Call.the-variants.{On, Open, Step}
+use Rattle.write.specs.Call.{On, Open, Step}
 use Rattle.write.specs.Begins.{writerSigns, columnOf}
 use Rattle.write.specs.Runs.{snapAt}
 use Rattle.write.specs.World.{World}

@@ -14,8 +14,7 @@ use Rattle.read.specs.Admission.{entry}
 use Rattle.read.specs.Handles.{smallest}
 use Rattle.read.specs.Calls.{Lent, slotAt}
 use Rattle.read.proofs.Verdicts.{refused-mild}
-use Rattle.write.specs.declared.Call.{Call}
-use Rattle.write.specs.declared.Call.the-variants.{Step, Run}
+use Rattle.write.specs.Call.{Call, Step, Run}
 use Rattle.write.specs.Begins.{stepSigns}
 use Rattle.write.specs.Runs.{snapAt, stepOn}
 use Rattle.write.specs.Machine.{callOn, callRule, going}

@@ -23,8 +23,7 @@ use Rattle.read.specs.Calls.{slotAt, createSigns}
 use Rattle.read.specs.Admission.{handleNumber}
 use Rattle.read.proofs.Verdicts.{silent}
 use Rattle.write.specs.declared.Opening.{Opening}
-use Rattle.write.specs.declared.Call.{Call}
-use Rattle.write.specs.declared.Call.the-variants.{Create, On, Append, Open, Step, Run}
+use Rattle.write.specs.Call.{Call, Create, On, Append, Open, Step, Run}
 use Rattle.write.specs.Machine.{callRule}
 use Rattle.write.specs.World.{World, reply, answerOf, valueOf}
 use Rattle.write.specs.Numbers.{is, isRun}

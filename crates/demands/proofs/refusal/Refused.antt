@@ -9,8 +9,7 @@ use Rattle.table.specs.Answers.{refusing}
 use Rattle.table.proofs.Split.{split}
 use Rattle.table.proofs.Booleans.{clash, both}
 use Rattle.read.specs.Calls.{lent, refusal}
-use Rattle.write.specs.declared.Call.{Call}
-use Rattle.write.specs.declared.Call.the-variants.{Create, On, Append, Open, Step, Run}
+use Rattle.write.specs.Call.{Call, Create, On, Append, Open, Step, Run}
 use Rattle.write.specs.Numbers.{isStep}
 use Rattle.write.specs.Machine.{callRule}
 use Rattle.write.specs.World.{World, worldOf, reply, answerOf, valueOf}

@@ -11,8 +11,7 @@ use Rattle.table.proofs.Computes.{apart}
 use Rattle.read.specs.declared.Handle.the-variants.{Drop, Enter, Release, LookUp}
 use Rattle.read.specs.Machine.{slotCount, place}
 use Rattle.write.specs.declared.Opening.the-variants.{Publish, Try, Flush, Take}
-use Rattle.write.specs.declared.Call.{Call}
-use Rattle.write.specs.declared.Call.the-variants.{Create, On, Append, Open, Step, Run}
+use Rattle.write.specs.Call.{Call, Create, On, Append, Open, Step, Run}
 use Rattle.write.specs.Runs.{snapAt}
 use Rattle.demands.specs.Demands.{Demands}
 use Rattle.demands.specs.KnownEnds.{publish, enters}

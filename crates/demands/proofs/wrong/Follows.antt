@@ -11,8 +11,7 @@ use Rattle.table.proofs.Computes.{apart}
 use Rattle.read.specs.declared.Handle.the-variants.{Drop, Enter, Release}
 use Rattle.read.specs.Machine.{slotCount}
 use Rattle.write.specs.declared.Opening.the-variants.{Publish, Take}
-use Rattle.write.specs.declared.Call.{Call}
-use Rattle.write.specs.declared.Call.the-variants.{Create, On, Append, Open, Step, Run}
+use Rattle.write.specs.Call.{Call, Create, On, Append, Open, Step, Run}
 use Rattle.write.specs.Numbers.{callNumber}
 use Rattle.demands.specs.Follows.{Follows}
 use Rattle.demands.specs.KnownEnds.{publish, enters, p5, cases, KnownEnds}

@@ -13,8 +13,7 @@ use Rattle.read.specs.declared.State.{State}
 use Rattle.read.specs.declared.Reply.{Reply}
 use Rattle.read.specs.Machine.{logRoom, judged}
 use Rattle.read.specs.Calls.{Lent, lent, slotAt, refusal}
-use Rattle.write.specs.declared.Call.{Call}
-use Rattle.write.specs.declared.Call.the-variants.{Append}
+use Rattle.write.specs.Call.{Call, Append}
 use Rattle.write.specs.Runs.{snapAt, lift}
 use Rattle.write.specs.Machine.{callOn, callRule}
 use Rattle.write.specs.World.{Machine, reply, answerOf, valueOf}

@@ -9,7 +9,7 @@ use Rattle.table.proofs.Computes.{apart}
 use Rattle.read.specs.declared.State.{State}
 use Rattle.read.specs.Machine.{fresh, place}
 use Rattle.write.specs.declared.Opening.the-variants.{Publish}
-use Rattle.write.specs.declared.Call.the-variants.{Create, Append, Step}
+use Rattle.write.specs.Call.{Create, Append, Step}
 use Rattle.write.specs.Steps.{withLog}
 use Rattle.write.specs.World.{World, freshWorld}
 use Rattle.demands.specs.Demand1.{Lengths, Sized, Fit, Demand1, Starts}

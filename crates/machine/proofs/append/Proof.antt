@@ -1,7 +1,7 @@
 -- The verdict decides; what append makes of slot 0 is put back.
 use native.Mathlib.Omega.{arith}
 use Rattle.table.proofs.Needs.{all3, all11}
-use Rattle.write.specs.declared.Call.the-variants.{Append}
+use Rattle.write.specs.Call.{Append}
 use Rattle.machine.proofs.Callings.{call-refused, call-admitted, append-lifted}
 use Rattle.machine.proofs.append.Statement.{statement}
 use Rattle.machine.proofs.append.Tie as tie

@@ -10,7 +10,7 @@ use Rattle.table.proofs.Needs.{all2, all4}
 use lib.ListN.{length, getD, length-map}
 use Rattle.read.specs.declared.Slot.{Slot}
 use Rattle.read.specs.Machine.{slotTotal, slotCount, noSlot, place}
-use Rattle.write.specs.declared.Call.{Call}
+use Rattle.write.specs.Call.{Call}
 use Rattle.write.specs.Numbers.{slotOf}
 use Rattle.play.specs.Turns.{isRunning}
 use Rattle.write.specs.Machine.{callOn, callRule}

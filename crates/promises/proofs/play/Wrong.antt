@@ -13,8 +13,7 @@ use Rattle.promises.proofs.Witnesses.{itself}
 use Rattle.promises.proofs.Contracts.{Bytes, slice}
 use Rattle.table.specs.declared.Answer.the-variants as answer
 use Rattle.read.specs.Calls.{lent}
-use Rattle.write.specs.declared.Call.{Call}
-use Rattle.write.specs.declared.Call.the-variants.{Create, On, Append, Open, Step, Run}
+use Rattle.write.specs.Call.{Call, Create, On, Append, Open, Step, Run}
 use Rattle.write.specs.Machine.{callRule}
 use Rattle.write.specs.World.{Machine, freshWorld, played}
 use Rattle.format.specs.declared.Flaw.{Flaw}

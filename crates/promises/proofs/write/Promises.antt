@@ -17,7 +17,7 @@ use Rattle.read.specs.Calls.{Lent, lent, refusal}
 use Rattle.write.specs.declared.Moved.{Moved}
 use Rattle.write.specs.declared.Opening.{Opening}
 use Rattle.write.specs.declared.Opening.the-variants.{Publish, Try, Flush, Take}
-use Rattle.write.specs.declared.Call.the-variants.{Append, Open, Step, Run}
+use Rattle.write.specs.Call.{Append, Open, Step, Run}
 use Rattle.write.specs.Steps.{at, polling, lastPolling, holds, stepAt}
 use Rattle.write.specs.Begins.{stepSigns, appendOn, openOn}
 use Rattle.write.specs.Machine.{callOn, callRule}

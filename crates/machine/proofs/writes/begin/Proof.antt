@@ -1,7 +1,7 @@
 -- The verdict decides; what the beginning makes of slot 0 is put back.
 use native.Mathlib.Omega.{arith}
 use Rattle.table.proofs.Needs.{all8}
-use Rattle.write.specs.declared.Call.the-variants.{Open}
+use Rattle.write.specs.Call.{Open}
 use Rattle.machine.proofs.Callings.{call-refused, call-admitted, open-lifted}
 use Rattle.machine.proofs.writes.begin.Statement.{statement}
 use Rattle.machine.proofs.writes.begin.Tie as tie

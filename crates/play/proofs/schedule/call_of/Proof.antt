@@ -3,7 +3,7 @@ use Prim.Native.Nat.{_-_, _≤_}
 use mathlib.Core.Path.{sym}
 use native.Mathlib.Omega.{arith}
 use lib.ListN.{List·getD-eq-default}
-use Rattle.write.specs.declared.Call.the-variants.{Run}
+use Rattle.write.specs.Call.{Run}
 use Rattle.play.specs.Schedule.{callsBy}
 use Rattle.play.proofs.Calls.{by-number}
 use Rattle.play.proofs.schedule.call_of.Statement.{statement}

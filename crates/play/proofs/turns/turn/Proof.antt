@@ -1,7 +1,7 @@
 -- Each result is the rule's at the call that the match found.
 use mathlib.Core.Path.{sym, ap, _∙_}
 use Rattle.read.specs.Calls.{lent}
-use Rattle.write.specs.declared.Call.{Call}
+use Rattle.write.specs.Call.{Call}
 use Rattle.write.specs.declared.Moved.{Moved}
 use Rattle.play.specs.Turns.{turnOn}
 use native.Mathlib.Omega.{arith}
