@@ -83,7 +83,7 @@ entriesIn s = length (unitsFrom s headBytes 0 (count s))
 
 -- of the records behind record i, counted from 0 on, the j-th is no append
 abbrev pub otherAt : List ℕ → ℕ → ℕ → Bool
-otherAt s i j = not (eqb (getD s (startOf (suc i + j)) 0) 8)
+otherAt s i j = not (eqb (getD s (startOf (i + 1 + j)) 0) 8)
 
 -- the first of m that is none, or m
 abbrev pub firstOther : List ℕ → ℕ → ℕ → ℕ
@@ -95,7 +95,7 @@ unfoldable pub badAt : List ℕ → ℕ → Bool
 badAt s i =
     let call = getD s (startOf i) 0 in
     let m = membersAt s (startOf i) in
-    not (leb 1 call && (leb call 15 && (leb m (count s - suc i) && eqb (firstOther s i m) m)))
+    not (leb 1 call && (leb call 15 && (leb m (count s - i - 1) && eqb (firstOther s i m) m)))
 
 -- the first of n records that is bad, or n
 abbrev pub firstBad : List ℕ → ℕ → ℕ
@@ -105,7 +105,7 @@ abbrev pub flaw : ℕ → ℕ → Flaw
 flaw a i = record { answer = a; place = i; entries = 0 }
 
 -- of records that are all whole: 24 and the first bad one, or 0 and how many entries there will be
-abbrev pub flawIn : List ℕ → Flaw
+unfoldable pub flawIn : List ℕ → Flaw
 flawIn s =
     let n = count s in
     let i = firstBad s n in

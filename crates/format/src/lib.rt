@@ -2,7 +2,7 @@
 mod numbers;
 
 ghost use mathlib.Core.Path.{_≡_};
-ghost use Prim.Native.Nat.{suc, _+_, _≤_, _<_};
+ghost use Prim.Native.Nat.{_+_, _≤_, _<_};
 ghost use lib.ListN.{length};
 ghost use Rattle.format.specs.Schedule.{headBytes, recordBytes, count as countRule, startOf, marked as markedRule, fieldsAt, membersAt, firstOther, badAt, flaw as flawRule, flawIn, flawOf};
 ghost use Rattle.format.specs.Transcript.{putRule};
@@ -126,7 +126,7 @@ fn members(s: &[u8], at: usize) -> usize
 
 // The first of the `m` records behind record `i` that is no append, or `m`.
 fn first_other(s: &[u8], i: usize, m: usize) -> usize
-    requires { ⌜ startOf (suc i + m) ≤ length (now s) ⌝ }
+    requires { ⌜ startOf (i + 1 + m) ≤ length (now s) ⌝ }
     ensures { λ r. ⌜ r ≡ firstOther (now (s .entry)) i m ⌝ }
 {
     let mut j = 0;
@@ -145,10 +145,11 @@ fn is_bad(s: &[u8], i: usize, n: usize) -> bool
     ensures { λ r. ⌜ r ≡ badAt (now (s .entry)) i ⌝ }
 {
     let at = HEAD + RECORD * i;
-    if s[at] < 1 {
+    let call = s[at];
+    if call < 1 {
         return true;
     }
-    if BATCH < s[at] {
+    if BATCH < call {
         return true;
     }
     let m = members(s, at);
