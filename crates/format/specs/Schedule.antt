@@ -47,14 +47,6 @@ versionOf s = numberAt 2 s 3
 abbrev pub torn : List ℕ → Bool
 torn s = not (eqb ((length s - headBytes) % recordBytes) 0)
 
--- record i's call is none of 1 to 14
-abbrev pub unknownAt : List ℕ → ℕ → Bool
-unknownAt s i = not (leb 1 (getD s (startOf i) 0) && leb (getD s (startOf i) 0) 14)
-
--- the first of n records whose call is unknown, or n
-abbrev pub firstUnknown : List ℕ → ℕ → ℕ
-firstUnknown s n = seek (unknownAt s) 0 n
-
 -- ---- a record
 
 -- the record that begins at byte `at`, field by field
@@ -69,24 +61,63 @@ fieldsAt s at =
       amount = numberAt 8 s (at + 12);
     }
 
+-- ---- batches
+
+-- how many of the records behind the one at byte `at` belong to it: those of a batch
+unfoldable pub membersAt : List ℕ → ℕ → ℕ
+membersAt s at =
+    let f = fieldsAt s at in
+    elim (eqb (f .call) 15) [ true ↦ f .amount | false ↦ 0 ]
+
+-- where the records begin that get an entry: of n from byte `at` on, the first `skip` belong to a batch before them
+abbrev pub unitsFrom : List ℕ → ℕ → ℕ → ℕ → List ℕ
+unitsFrom s at skip zero = []
+unitsFrom s at zero (suc n) = at ∷ unitsFrom s (at + recordBytes) (membersAt s at) n
+unitsFrom s at (suc skip) (suc n) = unitsFrom s (at + recordBytes) skip n
+
+-- how many entries the transcript of a file has
+abbrev pub entriesIn : List ℕ → ℕ
+entriesIn s = length (unitsFrom s headBytes 0 (count s))
+
 -- ---- what refuses a file
 
-abbrev pub flaw : ℕ → ℕ → Flaw
-flaw a i = record { answer = a; place = i }
+-- of the records behind record i, counted from 0 on, the j-th is no append
+abbrev pub otherAt : List ℕ → ℕ → ℕ → Bool
+otherAt s i j = not (eqb (getD s (startOf (i + 1 + j)) 0) 8)
 
--- 21 the mark, or shorter than five bytes; 22 the version; 23 a torn record; 24 a call not 1 to 14; 0 where nothing is wrong. With it
--- the record at which it was found
+-- the first of m that is none, or m
+abbrev pub firstOther : List ℕ → ℕ → ℕ → ℕ
+firstOther s i m = seek (otherAt s i) 0 m
+
+-- record i's call is none of 1 to 15, or it is a batch with fewer records behind it than it says, or with one among them that is no
+-- append
+unfoldable pub badAt : List ℕ → ℕ → Bool
+badAt s i =
+    let call = getD s (startOf i) 0 in
+    let m = membersAt s (startOf i) in
+    not (leb 1 call && (leb call 15 && (leb m (count s - i - 1) && eqb (firstOther s i m) m)))
+
+-- the first of n records that is bad, or n
+abbrev pub firstBad : List ℕ → ℕ → ℕ
+firstBad s n = seek (badAt s) 0 n
+
+abbrev pub flaw : ℕ → ℕ → Flaw
+flaw a i = record { answer = a; place = i; entries = 0 }
+
+-- of records that are all whole: 24 and the first bad one, or 0 and how many entries there will be
+unfoldable pub flawIn : List ℕ → Flaw
+flawIn s =
+    let n = count s in
+    let i = firstBad s n in
+    elim (ltb i n) [ true ↦ flaw 24 i | false ↦ record { answer = 0; place = n; entries = entriesIn s } ]
+
+-- 21 the mark, or shorter than five bytes; 22 the version; 23 a torn record; 24 a bad one; 0 where nothing is wrong. With it the record
+-- at which it was found
 unfoldable pub flawOf : List ℕ → Flaw
 flawOf s =
-    let n = count s in
-    let i = firstUnknown s n in
     elim (marked s) [
       | true ↦
-          elim (eqb (versionOf s) 1) [
-            | true ↦
-                elim (torn s)
-                [ true ↦ flaw 23 n | false ↦ elim (ltb i n) [ true ↦ flaw 24 i | false ↦ flaw 0 n ] ]
-            | false ↦ flaw 22 0
-          ]
+          elim (eqb (versionOf s) 1)
+          [ true ↦ elim (torn s) [ true ↦ flaw 23 (count s) | false ↦ flawIn s ] | false ↦ flaw 22 0 ]
       | false ↦ flaw 21 0
     ]

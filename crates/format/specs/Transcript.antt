@@ -1,4 +1,4 @@
--- The transcript: an entry of 9 bytes for each record.
+-- The transcript: an entry of 9 bytes for each record, but for those that belong to a batch.
 use Prim.Native.Nat.{ℕ, _+_}
 use mathlib.Core.Bool.{true, false}
 use mathlib.Core.List.{List, [], _∷_, _++_}

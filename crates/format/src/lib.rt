@@ -4,7 +4,7 @@ mod numbers;
 ghost use mathlib.Core.Path.{_≡_};
 ghost use Prim.Native.Nat.{_+_, _≤_, _<_};
 ghost use lib.ListN.{length};
-ghost use Rattle.format.specs.Schedule.{count as countRule, startOf, marked as markedRule, firstUnknown, recordBytes, fieldsAt, flawOf};
+ghost use Rattle.format.specs.Schedule.{headBytes, recordBytes, count as countRule, startOf, marked as markedRule, fieldsAt, membersAt, firstOther, badAt, flaw as flawRule, flawIn, flawOf};
 ghost use Rattle.format.specs.Transcript.{putRule};
 
 // How many bytes there are before the records, in one, and in a record's entry.
@@ -14,19 +14,26 @@ pub const RECORD: usize = 20;
 
 pub const ENTRY: usize = 9;
 
-// What refuses a file: no mark, another version, a torn record, a call that is none.
+// What refuses a file: no mark, another version, a torn record, a call that is none or a batch whose records are not there.
 const UNMARKED: u64 = 21;
 
 const VERSION: u64 = 22;
 
 const TORN: u64 = 23;
 
-const UNKNOWN: u64 = 24;
+const BAD: u64 = 24;
 
-// What is wrong with a schedule, and the record at which it was found; 0 where nothing is.
+// The calls of an operation and of a batch of them.
+const APPEND: u8 = 8;
+
+const BATCH: u8 = 15;
+
+// What is wrong with a schedule, and the record at which it was found; 0 where nothing is. With it how many entries the transcript
+// will have; 0 where something is wrong.
 pub struct Flaw {
     pub answer: u64,
     pub place: usize,
+    pub entries: usize,
 }
 
 // A record's fields.
@@ -106,23 +113,82 @@ fn marked(s: &[u8]) -> bool
     s[2] == 84
 }
 
-// The first of `n` records whose call is none, or `n`.
-fn first_unknown(s: &[u8], n: usize) -> usize
-    requires { ⌜ startOf n ≤ length (now s) ⌝ }
-    ensures { λ r. ⌜ r ≡ firstUnknown (now (s .entry)) n ⌝ }
+// How many of the records behind the one at byte `at` belong to it: those of a batch.
+fn members(s: &[u8], at: usize) -> usize
+    requires { ⌜ at + recordBytes ≤ length (now s) ⌝ }
+    ensures { λ r. ⌜ r ≡ membersAt (now (s .entry)) at ⌝ }
 {
+    if s[at] != BATCH {
+        return 0;
+    }
+    numbers::eight(s, at + 12) as usize
+}
+
+// The first of the `m` records behind record `i` that is no append, or `m`.
+fn first_other(s: &[u8], i: usize, m: usize) -> usize
+    requires { ⌜ startOf (i + 1 + m) ≤ length (now s) ⌝ }
+    ensures { λ r. ⌜ r ≡ firstOther (now (s .entry)) i m ⌝ }
+{
+    let mut j = 0;
+    while j < m {
+        if s[HEAD + RECORD * (i + 1 + j)] != APPEND {
+            return j;
+        }
+        j += 1;
+    }
+    j
+}
+
+// Whether record `i` of `n` is none of the calls, or a batch whose records are not there.
+fn is_bad(s: &[u8], i: usize, n: usize) -> bool
+    requires { ⌜ (i < n) × (n ≡ countRule (now s)) × (startOf n ≤ length (now s)) ⌝ }
+    ensures { λ r. ⌜ r ≡ badAt (now (s .entry)) i ⌝ }
+{
+    let at = HEAD + RECORD * i;
+    let call = s[at];
+    if call < 1 {
+        return true;
+    }
+    if BATCH < call {
+        return true;
+    }
+    let m = members(s, at);
+    if n - i - 1 < m {
+        return true;
+    }
+    first_other(s, i, m) != m
+}
+
+fn flawed(answer: u64, place: usize) -> Flaw
+    ensures { λ r. ⌜ r ≡ flawRule answer place ⌝ }
+{
+    Flaw {
+        answer,
+        place,
+        entries: 0,
+    }
+}
+
+// What is wrong with records that are all whole. Those that belong to a batch are looked at with it, and get no entry.
+fn check_records(s: &[u8]) -> Flaw
+    requires { ⌜ headBytes ≤ length (now s) ⌝ }
+    ensures { λ r. ⌜ r ≡ flawIn (now (s .entry)) ⌝ }
+{
+    let n = count(s);
+    let mut entries = 0;
     let mut i = 0;
     while i < n {
-        let call = s[HEAD + RECORD * i];
-        if call < 1 {
-            return i;
+        if is_bad(s, i, n) {
+            return flawed(BAD, i);
         }
-        if 14 < call {
-            return i;
-        }
-        i += 1;
+        i = i + 1 + members(s, HEAD + RECORD * i);
+        entries += 1;
     }
-    i
+    Flaw {
+        answer: 0,
+        place: n,
+        entries,
+    }
 }
 
 // What is wrong with a schedule, but for the output's room.
@@ -130,35 +196,15 @@ pub fn check(s: &[u8]) -> Flaw
     ensures { λ r. ⌜ r ≡ flawOf (now (s .entry)) ⌝ }
 {
     if !marked(s) {
-        return Flaw {
-            answer: UNMARKED,
-            place: 0,
-        };
+        return flawed(UNMARKED, 0);
     }
     if numbers::two(s, 3) != 1 {
-        return Flaw {
-            answer: VERSION,
-            place: 0,
-        };
+        return flawed(VERSION, 0);
     }
-    let n = count(s);
     if (s.len() - HEAD) % RECORD != 0 {
-        return Flaw {
-            answer: TORN,
-            place: n,
-        };
+        return flawed(TORN, count(s));
     }
-    let i = first_unknown(s, n);
-    if i < n {
-        return Flaw {
-            answer: UNKNOWN,
-            place: i,
-        };
-    }
-    Flaw {
-        answer: 0,
-        place: n,
-    }
+    check_records(s)
 }
 
 // An entry at byte `at` of a transcript: an answer in one byte, and a value in eight. Nothing is written where it does not fit.
