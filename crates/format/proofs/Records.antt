@@ -11,7 +11,7 @@ use Rattle.table.proofs.Split.{split, under}
 use Rattle.table.proofs.Booleans.{both}
 use Rattle.table.proofs.Seek.{seek-bounds, seek-before, seek-found, seek-none}
 use Rattle.format.specs.declared.Flaw.{Flaw}
-use Rattle.format.specs.Schedule.{numberAt, headBytes, recordBytes, count, startOf, marked, versionOf, membersAt, entriesIn, otherAt, firstOther, badAt, firstBad, flaw, flawIn, flawOf}
+use Rattle.format.specs.Schedule.{numberAt, headBytes, recordBytes, count, startOf, marked, versionOf, membersIn, membersAt, entriesIn, otherAt, firstOther, badAt, firstBad, flaw, flawIn, flawOf}
 
 -- ---- the mark
 
@@ -34,11 +34,11 @@ module _ (s : List ℕ) where
 module _ (s : List ℕ) (at : ℕ) where
   pub members-batch : getD s at 0 ≡ 15 → membersAt s at ≡ numberAt 8 s (at + 12)
   unfolding membersAt
-  members-batch e = rw (eq-eqb (getD s at 0) 15 e, membersAt)
+  members-batch e = rw (eq-eqb (getD s at 0) 15 e, membersIn)
 
   pub members-none : (getD s at 0 ≡ 15 → ⊥) → membersAt s at ≡ 0
   unfolding membersAt
-  members-none n = rw (ne-eqb (getD s at 0) 15 n, membersAt)
+  members-none n = rw (ne-eqb (getD s at 0) 15 n, membersIn)
 
 -- one of the calls, with as many appends behind it as belong to it
 pub record Good (s : List ℕ) (i : ℕ) : Type 0 where

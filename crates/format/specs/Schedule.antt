@@ -63,11 +63,12 @@ fieldsAt s at =
 
 -- ---- batches
 
--- how many of the records behind the one at byte `at` belong to it: those of a batch
+-- how many of the records behind it belong to a record: those of a batch
+abbrev pub membersIn : Fields → ℕ
+membersIn f = elim (eqb (f .call) 15) [ true ↦ f .amount | false ↦ 0 ]
+
 unfoldable pub membersAt : List ℕ → ℕ → ℕ
-membersAt s at =
-    let f = fieldsAt s at in
-    elim (eqb (f .call) 15) [ true ↦ f .amount | false ↦ 0 ]
+membersAt s at = membersIn (fieldsAt s at)
 
 -- where the records begin that get an entry: of n from byte `at` on, the first `skip` belong to a batch before them
 abbrev pub unitsFrom : List ℕ → ℕ → ℕ → ℕ → List ℕ

@@ -26,7 +26,9 @@ use Rattle.read.specs.Admission.{entry, notNow}
 use Rattle.read.specs.Handles.{bit, smallest}
 use Rattle.read.specs.Calls.{Lent, lent, refusal}
 use Rattle.write.specs.declared.Moved.{Moved}
-use Rattle.write.specs.Call.{Call, Create, On, Append, Open, Step, Run}
+use Rattle.table.specs.Order.{Op}
+use Rattle.play.specs.declared.schedule.Act.{Act}
+use Rattle.play.specs.declared.schedule.Act.the-variants as act
 use Rattle.write.specs.Steps.{holds, refused, moved, stopped, lastPollMove, stepAt, at, polling}
 use Rattle.write.specs.Begins.{stepSigns}
 use Rattle.write.specs.Runs.{lift, stepOn, afterStep, runOn}
@@ -36,7 +38,7 @@ use Rattle.write.proofs.Left.{usedAs, step-slot, step-value, step-lowers, manyS
 use Rattle.write.proofs.NeverBroken.{Sound, sound-step}
 use Rattle.play.specs.declared.turns.Far.{Far}
 use Rattle.play.specs.Player.{machine}
-use Rattle.play.specs.Turns.{isGoing, isRunning, halt, haltOf, far, facing, wentOn}
+use Rattle.play.specs.Turns.{meant, isGoing, isRunning, halt, haltOf, far, facing, wentOn}
 use Rattle.play.proofs.Run.{runFrom, run-starts, run-over, run-unrolls}
 use Rattle.play.proofs.Turned.{read-slot}
 use Rattle.read.proofs.Cases.{stateOf}
@@ -139,25 +141,27 @@ module _ (st : State) (l r g : List ℕ) where
   unfolding smallest entry
   verdict-run = refl
 
-  call-underway : (k : Call) → isGoing k ≡ true → underway (st .control .phase) ≡ true → callOn k st l r g ≡ due (isRunning k) 0 st l r g
+  call-underway : (os : List Op) (k : Act) → isGoing k ≡ true → underway (st .control .phase) ≡ true → callOn (meant os k) st l r g ≡ due (isRunning k) 0 st l r g
   unfolding callOn
-  call-underway Create p u = absurd (true≢false (sym p))
-  call-underway (On i h) p u = absurd (true≢false (sym p))
-  call-underway (Append kind key amount) p u = absurd (true≢false (sym p))
-  call-underway (Open o) p u = absurd (true≢false (sym p))
-  call-underway Step p u = going-underway stepOn 12 verdict-step u
-  call-underway Run p u = going-underway runOn 13 verdict-run u ∙ run-starts st l r g
+  call-underway os act.Create p u = absurd (true≢false (sym p))
+  call-underway os (act.On i h) p u = absurd (true≢false (sym p))
+  call-underway os (act.Append kind key amount) p u = absurd (true≢false (sym p))
+  call-underway os (act.Batch n) p u = absurd (true≢false (sym p))
+  call-underway os (act.Open o) p u = absurd (true≢false (sym p))
+  call-underway os act.Step p u = going-underway stepOn 12 verdict-step u
+  call-underway os act.Run p u = going-underway runOn 13 verdict-run u ∙ run-starts st l r g
 
   call-idle :
-      (k : Call) → isGoing k ≡ true → underway (st .control .phase) ≡ false →
-      callOn k st l r g ≡ lent (refusal (halt (st .control .phase) (st .control .job) true) st) l r g
+      (os : List Op) (k : Act) → isGoing k ≡ true → underway (st .control .phase) ≡ false →
+      callOn (meant os k) st l r g ≡ lent (refusal (halt (st .control .phase) (st .control .job) true) st) l r g
   unfolding callOn
-  call-idle Create p u = absurd (true≢false (sym p))
-  call-idle (On i h) p u = absurd (true≢false (sym p))
-  call-idle (Append kind key amount) p u = absurd (true≢false (sym p))
-  call-idle (Open o) p u = absurd (true≢false (sym p))
-  call-idle Step p u = going-idle stepOn 12 verdict-step u
-  call-idle Run p u = going-idle runOn 13 verdict-run u
+  call-idle os act.Create p u = absurd (true≢false (sym p))
+  call-idle os (act.On i h) p u = absurd (true≢false (sym p))
+  call-idle os (act.Append kind key amount) p u = absurd (true≢false (sym p))
+  call-idle os (act.Batch n) p u = absurd (true≢false (sym p))
+  call-idle os (act.Open o) p u = absurd (true≢false (sym p))
+  call-idle os act.Step p u = going-idle stepOn 12 verdict-step u
+  call-idle os act.Run p u = going-idle runOn 13 verdict-run u
 
 -- whether a poll is held matters only where a call is under way
 idle-held : (p : Phase) (j : Job) (held : Bool) → underway p ≡ false → halt p j true ≡ halt p j held
@@ -246,30 +250,30 @@ module _ (n : ℕ) (c : Control) (ss : List Slot) (es l r g : List ℕ) (h : Sou
 
 -- a step or a run begins
 pub going-starts :
-    (k : Call) → isGoing k ≡ true → (c : Control) (ss : List Slot) (es l r g : List ℕ) → Sound (stateOf c ss es) l r g →
-    Going (callOn k (stateOf c ss es) l r g) (isRunning k) (facing 0 (haltOf c (hereSlot c ss) (hereSnap c es))) c ss es l r g
-going-starts k p c ss es l r g h =
+    (os : List Op) (k : Act) → isGoing k ≡ true → (c : Control) (ss : List Slot) (es l r g : List ℕ) → Sound (stateOf c ss es) l r g →
+    Going (callOn (meant os k) (stateOf c ss es) l r g) (isRunning k) (facing 0 (haltOf c (hereSlot c ss) (hereSnap c es))) c ss es l r g
+going-starts os k p c ss es l r g h =
     let st = stateOf c ss es in
-    faces 0 c ss es l r g h (isRunning k) (call-underway st l r g k p)
+    faces 0 c ss es l r g h (isRunning k) (call-underway st l r g os k p)
     (λ z.
     split (underway (c .phase))
-    (λ u. call-underway st l r g k p u ∙ due-halted 0 c ss es l r g h (isRunning k) (λ e. refl) u z)
+    (λ u. call-underway st l r g os k p u ∙ due-halted 0 c ss es l r g h (isRunning k) (λ e. refl) u z)
     (λ u.
-    call-idle st l r g k p u
+    call-idle st l r g os k p u
     ∙ ap (λ (a : Answer). lent (refusal a st) l r g) (idle-held (c .phase) (c .job) (holds (hereSlot c ss) (hereSnap c es)) u)))
     (omega (arith, left-small c (h .good .whole)))
 
 -- the same of the slot at k
 pub going-begins :
-    (k : Call) → isGoing k ≡ true → (c : Control) (ss : List Slot) (es l r g : List ℕ) → Sound (stateOf c ss es) l r g → {i : ℕ} →
+    (os : List Op) (k : Act) → isGoing k ≡ true → (c : Control) (ss : List Slot) (es l r g : List ℕ) → Sound (stateOf c ss es) l r g → {i : ℕ} →
     i ≡ place (c .phase) → {s : Slot} → s ≡ getD ss i noSlot → {f : Far} → f ≡ facing 0 (haltOf c s (getD es i 0)) →
-    Going (callOn k (stateOf c ss es) l r g) (isRunning k) f c ss es l r g
-going-begins k p c ss es l r g h {i} e q x =
-    subst (λ (f : Far). Going (callOn k (stateOf c ss es) l r g) (isRunning k) f c ss es l r g)
+    Going (callOn (meant os k) (stateOf c ss es) l r g) (isRunning k) f c ss es l r g
+going-begins os k p c ss es l r g h {i} e q x =
+    subst (λ (f : Far). Going (callOn (meant os k) (stateOf c ss es) l r g) (isRunning k) f c ss es l r g)
     (sym
     (x ∙ ap (λ (s : Slot). facing 0 (haltOf c s (getD es i 0))) q
     ∙ ap (λ (i : ℕ). facing 0 (haltOf c (getD ss i noSlot) (getD es i 0))) e))
-    (going-starts k p c ss es l r g h)
+    (going-starts os k p c ss es l r g h)
 
 -- ---- a step of it
 

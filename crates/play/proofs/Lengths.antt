@@ -3,7 +3,7 @@ use Prim.Native.Nat.{ℕ, zero, suc, _+_, _*_, _/_}
 use mathlib.Core.Path.{_≡_, refl, sym, ap, subst, _∙_}
 use mathlib.Core.List.{List, [], _∷_, _++_}
 use native.Mathlib.Omega.{arith}
-use lib.ListN.{length, drop, replicate, length-drop}
+use lib.ListN.{length, drop, replicate, length-drop, length-map}
 use Rattle.table.specs.Copy.{words}
 use Rattle.read.specs.declared.State.{State}
 use Rattle.read.specs.declared.Verdict.the-variants.{Admitted}
@@ -14,38 +14,38 @@ use Rattle.write.specs.World.{World, Machine, freshWorld, worldOf, reply, playe
 use Rattle.write.specs.Machine.{callRule}
 use Rattle.write.proofs.NeverBroken.{sound-fresh, sound-judged}
 use Rattle.play.specs.declared.Reached.{Reached}
-use Rattle.format.specs.Schedule.{recordBytes, count}
+use Rattle.format.specs.Schedule.{headBytes, recordBytes, unitsFrom, entriesIn}
+use Rattle.format.proofs.Units.{units-drop}
 use Rattle.format.specs.Transcript.{entryBytes, entriesOf}
-use Rattle.play.specs.Schedule.{callsFrom, callsIn, callsOf}
+use Rattle.play.specs.Schedule.{decoded, callsIn, callsOf}
 use Rattle.play.specs.Player.{transcript, machine, reached}
-
-calls-length : (s : List ℕ) (at n : ℕ) → length (callsFrom s at n) ≡ n
-calls-length s at zero = refl
-calls-length s at (suc n) = ap suc (calls-length s (at + recordBytes) n)
 
 played-length : (m : Machine) (ks : List Call) (w : World) → length (entriesOf (played m ks w .replies)) ≡ entryBytes * length ks
 unfolding played entriesOf
 played-length m [] w = refl
 played-length m (k ∷ ks) w = let h = played-length m ks (worldOf (reply m k w)) in omega (arith, h)
 
-pub file-length : (s : List ℕ) (w : World) → length (transcript (callsOf s) w) ≡ entryBytes * count s
+pub file-length : (s : List ℕ) (w : World) → length (transcript (callsOf s) w) ≡ entryBytes * entriesIn s
 file-length s w =
+    let n = length (drop headBytes s) / recordBytes in
     played-length callRule (callsOf s) w
-    ∙ ap (λ (n : ℕ). entryBytes * n) (calls-length (drop 5 s) 0 (length (drop 5 s) / recordBytes) ∙ ap (λ (n : ℕ). n / recordBytes) (length-drop 5 s))
+    ∙ ap (λ (n : ℕ). entryBytes * n)
+    (length-map (unitsFrom (drop headBytes s) 0 0 n) (decoded (drop headBytes s)) ∙ units-drop headBytes s 0 0 n
+    ∙ ap (λ (m : ℕ). length (unitsFrom s headBytes 0 (m / recordBytes))) (length-drop headBytes s))
 
 -- the same of the part behind the head, b
-module _ (s : List ℕ) {b : List ℕ} (p : b ≡ drop 5 s) where
-  pub part-length : (w : World) → length (transcript (callsIn b) w) ≡ entryBytes * count s
+module _ (s : List ℕ) {b : List ℕ} (p : b ≡ drop headBytes s) where
+  pub part-length : (w : World) → length (transcript (callsIn b) w) ≡ entryBytes * entriesIn s
   part-length w = ap (λ (b : List ℕ). length (transcript (callsIn b) w)) p ∙ file-length s w
 
-  pub part-written : (w : World) {r : Lent Reached} → r ≡ reached b w → r .made .written ≡ entryBytes * count s
+  pub part-written : (w : World) {r : Lent Reached} → r ≡ reached b w → r .made .written ≡ entryBytes * entriesIn s
   part-written w {r} e =
       let x : _≡_ {A = ℕ} (r .made .written) (length (transcript (callsIn b) w)) = ap (λ (r : Lent Reached). r .made .written) e in
       x ∙ part-length w
 
   pub part-bytes :
       (out : List ℕ) {w : World} → w ≡ freshWorld →
-      (let t = transcript (callsIn b) w in t ++ drop (length t) out) ≡ transcript (callsOf s) freshWorld ++ drop (entryBytes * count s) out
+      (let t = transcript (callsIn b) w in t ++ drop (length t) out) ≡ transcript (callsOf s) freshWorld ++ drop (entryBytes * entriesIn s) out
   part-bytes out e =
       (λ i. (let t = transcript (callsIn (p i)) (e i) in t ++ drop (length t) out))
       ∙ ap (λ (n : ℕ). transcript (callsOf s) freshWorld ++ drop n out) (file-length s freshWorld)

@@ -5,6 +5,7 @@ pub mod Rule
 pub mod Refusals
 pub mod Run
 pub mod Turned
+pub mod Gathered
 pub mod Going
 pub mod Plays
 pub mod Computes

@@ -1,9 +1,9 @@
 -- The player's loop: before a turn, what stands in the output, and that the records still to come give the rest of what is to be
 -- written, and the machine that is to be reached.
-use Prim.Native.Nat.{ℕ, suc, _+_, _-_, _*_, _/_, _≤_, _<_}
+use Prim.Native.Nat.{ℕ, suc, _+_, _-_, _*_, _/_, _≤_, _<_, min}
 use mathlib.Core.Path.{_≡_, refl, sym, ap, subst, _∙_}
 use mathlib.Core.Bool.{false}
-use mathlib.Core.List.{List, [], _++_, append-assoc, append-nil}
+use mathlib.Core.List.{List, [], _∷_, _++_, map, append-assoc, append-nil}
 use native.Mathlib.Omega.{arith}
 use lib.ListN.{length, getD, set, take, drop, length-append, length-drop, take-append-drop}
 use lib.Seq.{length-take-le, take-at, drop-append-add, drop-drop}
@@ -16,32 +16,34 @@ use Rattle.read.specs.Machine.{slotCount, noSlot, judged}
 use Rattle.read.specs.Calls.{Lent, lent}
 use Rattle.write.specs.declared.Moved.{Moved}
 use Rattle.write.specs.Call.{Call}
-use Rattle.write.specs.Numbers.{slotOf}
+use Rattle.table.specs.Order.{Op}
 use Rattle.write.specs.Machine.{callOn, callRule}
 use Rattle.write.specs.World.{World, worldOf, answerOf, valueOf, Played, answering, played}
 use Rattle.write.proofs.Judged.{judged-good}
 use Rattle.write.proofs.NeverBroken.{Sound, call-made, sound-call}
 use Rattle.play.specs.declared.turns.Far.{Far}
 use Rattle.play.specs.declared.Reached.{Reached}
-use Rattle.format.specs.Schedule.{recordBytes}
+use Rattle.format.specs.Schedule.{recordBytes, membersAt, unitsFrom}
+use Rattle.format.proofs.Units.{units-next}
 use Rattle.format.specs.Transcript.{entryBytes, entryOf, entriesOf}
-use Rattle.play.specs.Schedule.{decoded, callsFrom, callsIn}
+use Rattle.play.specs.Schedule.{decoded, callsIn}
 use Rattle.play.specs.Player.{transcript, machine}
-use Rattle.play.specs.Turns.{isGoing, turnOn, over}
+use Rattle.play.specs.Turns.{meant, named, isGoing, turnOn, over}
+use Rattle.play.specs.declared.schedule.Act.{Act}
 use Rattle.play.proofs.Turned.{sought, within, putSlot, turn-made}
 use Rattle.play.proofs.Going.{Said, said}
 use Rattle.read.proofs.Cases.{stateOf}
 
 -- a call that takes one turn: what its move says, its slot being put back
 pub turn-said :
-    (k : Call) → isGoing k ≡ false → (c : Control) (ss : List Slot) (es l r g : List ℕ) {i : ℕ} → i ≡ sought k ss (slotOf k) →
-    {s : Slot} → s ≡ getD ss (within i) noSlot → {m : Moved} {l' r' g' : List ℕ} → lent m l' r' g' ≡ turnOn k i c s l r g →
-    Said (callOn k (stateOf c ss es) l r g) (over m) (m .control) (set ss (within i) (m .slot)) es l' r' g'
-turn-said k p c ss es l r g {i} e q x =
+    (os : List Op) (k : Act) → isGoing k ≡ false → (c : Control) (ss : List Slot) (es l r g : List ℕ) {i : ℕ} → i ≡ sought k ss (named k) →
+    {s : Slot} → s ≡ getD ss (within i) noSlot → {m : Moved} {l' r' g' : List ℕ} → lent m l' r' g' ≡ turnOn (meant os k) i c s l r g →
+    Said (callOn (meant os k) (stateOf c ss es) l r g) (over m) (m .control) (set ss (within i) (m .slot)) es l' r' g'
+turn-said os k p c ss es l r g {i} e q x =
     let st = stateOf c ss es in
     said
-    (turn-made st l r g k p ∙ ap (λ (i : ℕ). putSlot (within i) st (turnOn k i c (getD ss (within i) noSlot) l r g)) (sym e)
-    ∙ ap (λ (s : Slot). putSlot (within i) st (turnOn k i c s l r g)) (sym q) ∙ ap (putSlot (within i) st) (sym x))
+    (turn-made st l r g os k p ∙ ap (λ (i : ℕ). putSlot (within i) st (turnOn (meant os k) i c (getD ss (within i) noSlot) l r g)) (sym e)
+    ∙ ap (λ (s : Slot). putSlot (within i) st (turnOn (meant os k) i c s l r g)) (sym q) ∙ ap (putSlot (within i) st) (sym x))
     refl refl
 
 -- ---- before a turn
@@ -52,7 +54,7 @@ remain s from = (length s - from) / recordBytes
 
 -- the records still to come
 abbrev rest : List ℕ → ℕ → World → Played
-rest s from w = played callRule (callsFrom s from (remain s from)) w
+rest s from w = played callRule (map (decoded s) (unitsFrom s from 0 (remain s from))) w
 
 -- whole: what the output is to begin with; end: the machine that is to be reached
 pub record Plays (s out₀ whole : List ℕ) (end : World) (out : List ℕ) (from to : ℕ) (c : Control) (ss : List Slot) (es l r g : List ℕ) :
@@ -80,7 +82,7 @@ pub plays-start :
 plays-start s out st l r g h b =
     let w = machine st l r g in
     let e : remain s 0 ≡ length s / recordBytes = omega arith in
-    let f : rest s 0 w ≡ played callRule (callsIn s) w = ap (λ (n : ℕ). played callRule (callsFrom s 0 n) w) e in
+    let f : rest s 0 w ≡ played callRule (callsIn s) w = ap (λ (n : ℕ). played callRule (map (decoded s) (unitsFrom s 0 0 n)) w) e in
     record {
       sound = h;
       upto = omega arith;
@@ -103,7 +105,7 @@ module _ {s out₀ whole : List ℕ} {end : World} {out : List ℕ} {from to : �
     module _ (b : recordBytes * (length s / recordBytes) ≤ from) where
       none : rest s from here ≡ record { replies = []; world = here }
       unfolding played
-      none = ap (λ (n : ℕ). played callRule (callsFrom s from n) here) (let z : remain s from ≡ 0 = omega (arith, p .used) in z)
+      none = ap (λ (n : ℕ). played callRule (map (decoded s) (unitsFrom s from 0 n)) here) (let z : remain s from ≡ 0 = omega (arith, p .used) in z)
 
       written : to ≡ length whole
       unfolding entriesOf
@@ -139,15 +141,24 @@ module _ {s out₀ whole : List ℕ} {end : World} {out : List ℕ} {from to : �
       abbrev reply : Lent Reply
       reply = callRule call (stateOf c ss es) l r g
 
-      abbrev more : List Call
-      more = callsFrom s (from + recordBytes) (remain s (from + recordBytes))
+      -- where the next record begins that gets an entry
+      abbrev pub next : ℕ
+      next = from + recordBytes * suc (min (membersAt s from) (remain s from - 1))
 
-      one-more : remain s from ≡ suc (remain s (from + recordBytes))
-      one-more = omega (arith, plays-record)
+      abbrev more : List Call
+      more = map (decoded s) (unitsFrom s next 0 (remain s next))
+
+      units : unitsFrom s from 0 (remain s from) ≡ from ∷ unitsFrom s next 0 (remain s next)
+      units =
+          let n = remain s from - 1 in
+          let k = min (membersAt s from) n in
+          ap (unitsFrom s from 0) {x = remain s from} {y = suc n} (omega (arith, plays-record))
+          ∙ units-next s from n k (omega arith)
+          ∙ ap (λ (m : ℕ). from ∷ unitsFrom s next 0 m) {x = n - k} {y = remain s next} (omega (arith, plays-record))
 
       opens : rest s from here ≡ answering (answerOf reply) (valueOf reply) (played callRule more (worldOf reply))
       unfolding played
-      opens = ap (λ (n : ℕ). played callRule (callsFrom s from n) here) one-more
+      opens = ap (λ (us : List ℕ). played callRule (map (decoded s) us) here) units
 
       pub plays-room : to + entryBytes ≤ length out
       unfolding entriesOf
@@ -157,28 +168,28 @@ module _ {s out₀ whole : List ℕ} {end : World} {out : List ℕ} {from to : �
       pub plays-next :
           {f : Far} {d : Control} {ts : List Slot} {fs l' r' g' : List ℕ} → Said (callOn call (stateOf c ss es) l r g) f d ts fs l' r' g' →
           (out' : List ℕ) → out' ≡ take to out ++ (entryOf (f .answer) (f .value) ++ drop (to + entryBytes) out) →
-          Plays s out₀ whole end out' (from + recordBytes) (to + entryBytes) d ts fs l' r' g'
+          Plays s out₀ whole end out' next (to + entryBytes) d ts fs l' r' g'
       unfolding entriesOf
       plays-next {f} {d} {ts} {fs} {l'} {r'} {g'} q out' w =
           let e : Said reply f d ts fs l' r' g' =
           subst (λ (o : Lent Reply). Said o f d ts fs l' r' g') (sym (call-made call (stateOf c ss es) l r g (p .sound))) q in
-          let next : World = machine (stateOf d ts fs) l' r' g' in
+          let after : World = machine (stateOf d ts fs) l' r' g' in
           let entry : List ℕ = entryOf (f .answer) (f .value) in
-          let opened : rest s from here ≡ answering (f .answer) (f .value) (rest s (from + recordBytes) next) =
+          let opened : rest s from here ≡ answering (f .answer) (f .value) (rest s next after) =
           opens ∙ (λ j. answering (e .answer j) (e .value j) (played callRule more (e .world j))) in
           let fit : to + entryBytes ≤ length out = plays-room in
           let head : List ℕ = take to out ++ entry in
           let taken : length (take to out) ≡ to = length-take-le to out (omega arith) in
           let tall : length head ≡ to + entryBytes = length-append (take to out) entry ∙ omega (arith, taken) in
           let x : out' ≡ head ++ drop (to + entryBytes) out = w ∙ sym (append-assoc (take to out) entry (drop (to + entryBytes) out)) in
-          let many : to + (entryBytes + length (entriesOf (rest s (from + recordBytes) next .replies))) ≡ length whole =
+          let many : to + (entryBytes + length (entriesOf (rest s next after .replies))) ≡ length whole =
           omega (arith, p .count, ap (λ (q : Played). length (entriesOf (q .replies))) opened) in
           let y : length whole ≡ length head + (length whole - (to + entryBytes)) = omega (arith, tall, many) in
           let z : to + entryBytes + (length whole - (to + entryBytes)) ≡ length whole = omega (arith, many) in
           record {
             sound = subst (λ (w : World). Sound (w .state) (w .left) (w .right) (w .log)) (e .world) (sound-call call (stateOf c ss es) l r g (p .sound));
             upto = omega (arith, plays-record);
-            used = omega (arith, p .used, one-more);
+            used = omega (arith, p .used, plays-record);
             sized =
                 ap length x ∙ length-append head (drop (to + entryBytes) out)
                 ∙ omega (arith, tall, fit, length-drop (to + entryBytes) out, p .sized);
@@ -189,10 +200,10 @@ module _ {s out₀ whole : List ℕ} {end : World} {out : List ℕ} {from to : �
                 ∙ drop-drop (length whole - (to + entryBytes)) (to + entryBytes) out ∙ ap (λ (n : ℕ). drop n out) z ∙ p .behind;
             count = omega (arith, many);
             same =
-                ap (λ (v : List ℕ). take (to + entryBytes) v ++ entriesOf (rest s (from + recordBytes) next .replies)) x
-                ∙ ap (λ (v : List ℕ). v ++ entriesOf (rest s (from + recordBytes) next .replies))
+                ap (λ (v : List ℕ). take (to + entryBytes) v ++ entriesOf (rest s next after .replies)) x
+                ∙ ap (λ (v : List ℕ). v ++ entriesOf (rest s next after .replies))
                 (take-at head (drop (to + entryBytes) out) (to + entryBytes) tall)
-                ∙ append-assoc (take to out) entry (entriesOf (rest s (from + recordBytes) next .replies))
+                ∙ append-assoc (take to out) entry (entriesOf (rest s next after .replies))
                 ∙ ap (λ (q : Played). take to out ++ entriesOf (q .replies)) (sym opened) ∙ p .same;
             ends = ap (λ (q : Played). q .world) (sym opened) ∙ p .ends;
           }

@@ -1,14 +1,14 @@
 -- A call that takes one turn: where its search for a slot ends, and that its move, put back, is what the machine gives.
-use Prim.Native.Nat.{ℕ, _+_, _-_, _%_, _^_, _<_}
+use Prim.Native.Nat.{ℕ, _+_, _-_, _%_, _<_}
 use mathlib.Core.Path.{_≡_, refl, sym, ap, _∙_}
-use mathlib.Core.Bool.{Bool, true, false, not, _&&_, true≢false}
-use mathlib.Core.List.{List}
+use mathlib.Core.Bool.{Bool, true, false, not, true≢false}
+use mathlib.Core.List.{List, [], _∷_}
 use native.Mathlib.Omega.{arith}
 use borrow.Author.Tests.{lt-ltb, ltb-true, ltb-false, leb-true, leb-false}
 use lib.Dec.{eqb, ltb, leb}
 use lib.ListN.{length, getD, set}
 use lib.Seq.{set-getD}
-use Rattle.table.specs.Copy.{lawful}
+use Rattle.table.specs.Order.{Op, op}
 use Rattle.table.specs.Seek.{seek}
 use Rattle.table.specs.declared.Answer.{Answer}
 use Rattle.table.specs.declared.Answer.the-variants as answer
@@ -23,19 +23,19 @@ use Rattle.read.specs.declared.Reply.{Reply}
 use Rattle.read.specs.declared.Verdict.{Verdict}
 use Rattle.read.specs.declared.Verdict.the-variants.{Admitted, Refused}
 use Rattle.read.proofs.Cases.{stateOf, reply-past, reply-in, create-refused, create-made}
-use Rattle.read.specs.Machine.{slotTotal, slotCount, logRoom, noSlot, newSlot}
-use Rattle.read.specs.Handles.{smallest, withDue, handleOn}
+use Rattle.read.specs.Machine.{slotTotal, slotCount, noSlot, newSlot}
+use Rattle.read.specs.Handles.{smallest, handleOn}
 use Rattle.read.specs.Calls.{Lent, lent, slotAt, refusal, createReply, handleReply}
-use Rattle.write.specs.Call.{Call, Create, On, Append, Open, Step, Run}
 use Rattle.write.specs.declared.Moved.{Moved}
 use Rattle.write.specs.declared.Opening.{Opening}
 use Rattle.write.specs.declared.Opening.the-variants as opening
-use Rattle.write.specs.Numbers.{slotOf}
-use Rattle.write.specs.Steps.{refused, withLog, ofLeft, ofRight, operated}
-use Rattle.write.specs.Begins.{writerSigns, logged, madeAtOnce, appendOn, columnOf, begun, value, opened, openOn}
+use Rattle.write.specs.Steps.{refused}
+use Rattle.write.specs.Begins.{writerSigns, lawfulBatch, crowds, appended, appendOn, columnOf, begun, value, opened, openOn}
 use Rattle.write.specs.Runs.{snapAt, lift}
 use Rattle.write.specs.Machine.{callOn}
-use Rattle.play.specs.Turns.{isGoing, passes, waits, movedAs, turnOn}
+use Rattle.play.specs.declared.schedule.Act.{Act}
+use Rattle.play.specs.declared.schedule.Act.the-variants as act
+use Rattle.play.specs.Turns.{meant, named, isGoing, passes, waits, movedAs, turnOn}
 use Rattle.read.specs.Handles.{given}
 
 -- ---- the search
@@ -44,13 +44,14 @@ abbrev isFree : List Slot → ℕ → Bool
 isFree ss i = not (getD ss i noSlot .used)
 
 -- where the search of a call that is at slot i ends
-abbrev pub sought : Call → List Slot → ℕ → ℕ
-sought Create ss i = seek (isFree ss) i (slotCount - i)
-sought (On j h) ss i = i
-sought (Append kind key amount) ss i = i
-sought (Open o) ss i = i
-sought Step ss i = i
-sought Run ss i = i
+abbrev pub sought : Act → List Slot → ℕ → ℕ
+sought act.Create ss i = seek (isFree ss) i (slotCount - i)
+sought (act.On j h) ss i = i
+sought (act.Append kind key amount) ss i = i
+sought (act.Batch n) ss i = i
+sought (act.Open o) ss i = i
+sought act.Step ss i = i
+sought act.Run ss i = i
 
 -- any slot stands for one that is not there
 abbrev pub within : ℕ → ℕ
@@ -73,42 +74,45 @@ module _ (ss : List Slot) (i : ℕ) {s : Slot} (e : s ≡ getD ss (within i) noS
   used-here : i < slotTotal → s .used ≡ getD ss i noSlot .used
   used-here h = ap (λ (s : Slot). s .used) (e ∙ ap (λ (j : ℕ). getD ss j noSlot) (within-here i h))
 
-  pub passes-below : (k : Call) → passes k i s ≡ true → i < slotTotal
-  passes-below Create p = ltb-true i slotTotal (there (ltb i slotTotal) p)
-  passes-below (On j h) p = absurd (true≢false (sym p))
-  passes-below (Append kind key amount) p = absurd (true≢false (sym p))
-  passes-below (Open o) p = absurd (true≢false (sym p))
-  passes-below Step p = absurd (true≢false (sym p))
-  passes-below Run p = absurd (true≢false (sym p))
+  pub passes-below : (k : Act) → passes k i s ≡ true → i < slotTotal
+  passes-below act.Create p = ltb-true i slotTotal (there (ltb i slotTotal) p)
+  passes-below (act.On j h) p = absurd (true≢false (sym p))
+  passes-below (act.Append kind key amount) p = absurd (true≢false (sym p))
+  passes-below (act.Batch n) p = absurd (true≢false (sym p))
+  passes-below (act.Open o) p = absurd (true≢false (sym p))
+  passes-below act.Step p = absurd (true≢false (sym p))
+  passes-below act.Run p = absurd (true≢false (sym p))
 
   -- a slot is passed
-  pub sought-next : (k : Call) → passes k i s ≡ true → sought k ss i ≡ sought k ss (i + 1)
+  pub sought-next : (k : Act) → passes k i s ≡ true → sought k ss i ≡ sought k ss (i + 1)
   unfolding slotCount
-  sought-next Create p =
-      let h = passes-below Create p in
+  sought-next act.Create p =
+      let h = passes-below act.Create p in
       let u : s .used ≡ true = ap (λ (b : Bool). passing b (s .used)) (sym (lt-ltb i slotTotal h)) ∙ p in
       seek-next (isFree ss) i slotTotal h (ap not (sym (used-here h) ∙ u))
-  sought-next (On j h) p = absurd (true≢false (sym p))
-  sought-next (Append kind key amount) p = absurd (true≢false (sym p))
-  sought-next (Open o) p = absurd (true≢false (sym p))
-  sought-next Step p = absurd (true≢false (sym p))
-  sought-next Run p = absurd (true≢false (sym p))
+  sought-next (act.On j h) p = absurd (true≢false (sym p))
+  sought-next (act.Append kind key amount) p = absurd (true≢false (sym p))
+  sought-next (act.Batch n) p = absurd (true≢false (sym p))
+  sought-next (act.Open o) p = absurd (true≢false (sym p))
+  sought-next act.Step p = absurd (true≢false (sym p))
+  sought-next act.Run p = absurd (true≢false (sym p))
 
   -- the search ends
-  pub sought-here : (k : Call) → passes k i s ≡ false → sought k ss i ≡ i
+  pub sought-here : (k : Act) → passes k i s ≡ false → sought k ss i ≡ i
   unfolding slotCount
-  sought-here Create p =
+  sought-here act.Create p =
       split (ltb i slotTotal)
       (λ b.
       let h = ltb-true i slotTotal b in
       let u : s .used ≡ false = ap (λ (b : Bool). passing b (s .used)) (sym b) ∙ p in
       seek-here (isFree ss) i slotTotal h (ap not (sym (used-here h) ∙ u)))
       (λ b. seek-end (isFree ss) i slotTotal (ltb-false i slotTotal b))
-  sought-here (On j h) p = refl
-  sought-here (Append kind key amount) p = refl
-  sought-here (Open o) p = refl
-  sought-here Step p = refl
-  sought-here Run p = refl
+  sought-here (act.On j h) p = refl
+  sought-here (act.Append kind key amount) p = refl
+  sought-here (act.Batch n) p = refl
+  sought-here (act.Open o) p = refl
+  sought-here act.Step p = refl
+  sought-here act.Run p = refl
 
 -- ---- a slot that was read
 
@@ -153,31 +157,14 @@ module _ (st : State) where
     abbrev first : Slot
     first = slotAt st 0
 
-    module _ (kind key amount : ℕ) where
-      abbrev appends : Verdict → Bool → Bool → ℕ → Lent Moved
-      appends v early room e =
-          let f = operated kind key amount in
-          elim v [
-            | Admitted ↦
-                elim early [
-                  | true ↦
-                      lent (madeAtOnce c (withDue ((first .epoch + 2) % 2 ^ 64) (first .due) first) e) (ofLeft (c .right) f l)
-                      (ofRight (c .right) f r) g
-                  | false ↦
-                      elim room [
-                        | true ↦ lent (madeAtOnce (withLog (c .length + 1) (c .swapped) c) first e) l r (logged (c .length) kind key amount g)
-                        | false ↦ lent (refused answer.LogFull c first e) l r g
-                      ]
-                ]
-            | Refused a ↦ lent (refused a c first e) l r g
-          ]
+    module _ (os : List Op) where
+      abbrev appends : Verdict → Bool → ℕ → Lent Moved
+      appends v early e = elim v [ Admitted ↦ appended early os c first e l r g | Refused a ↦ lent (refused a c first e) l r g ]
 
-      append-kept :
-          (v : Verdict) (early room : Bool) → lift 0 st (appends v early room (snapAt st 0)) ≡ putSlot 0 st (appends v early room 0)
-      append-kept Admitted true room = kept 0 _ _ _ _ _ _ _
-      append-kept Admitted false true = kept 0 _ _ _ _ _ _ _
-      append-kept Admitted false false = kept 0 _ _ _ _ _ _ _
-      append-kept (Refused a) early room = kept 0 _ _ _ _ _ _ _
+      append-kept : (v : Verdict) (early : Bool) → lift 0 st (appends v early (snapAt st 0)) ≡ putSlot 0 st (appends v early 0)
+      append-kept Admitted true = kept 0 _ _ _ _ _ _ _
+      append-kept Admitted false = kept 0 _ _ _ _ _ _ _
+      append-kept (Refused a) early = kept 0 _ _ _ _ _ _ _
 
     flush-kept :
         (b : Bool) →
@@ -252,20 +239,23 @@ module _ (st : State) where
           ap (λ (a : Reply). lent a l r g) (reply-in i h l r st b)
           ∙ ap (λ (j : ℕ). putSlot j st (lent (touches h (slotAt st j) false) l r g)) (sym (within-here i b))
 
+    append-made : (os : List Op) → lift 0 st (appendOn os c first (snapAt st 0) l r g) ≡ putSlot 0 st (appendOn os c first 0 l r g)
+    unfolding appendOn
+    append-made os =
+        append-kept os (smallest (writerSigns 7 (not (lawfulBatch os)) (crowds (length os) c) c first)) (c .first)
+
     pub turn-made :
-        (k : Call) → isGoing k ≡ false →
-        (let i = sought k (st .slots) (slotOf k) in
-        callOn k st l r g ≡ putSlot (within i) st (turnOn k i c (slotAt st (within i)) l r g))
-    unfolding callOn turnOn appendOn openOn
-    turn-made Create p =
-        let i = sought Create (st .slots) 0 in
+        (os : List Op) (k : Act) → isGoing k ≡ false →
+        (let i = sought k (st .slots) (named k) in
+        callOn (meant os k) st l r g ≡ putSlot (within i) st (turnOn (meant os k) i c (slotAt st (within i)) l r g))
+    unfolding callOn turnOn openOn
+    turn-made os act.Create p =
+        let i = sought act.Create (st .slots) 0 in
         ap (λ (n : ℕ). lent (createReply (seek (isFree (st .slots)) 0 n) st) l r g) (omega arith)
         ∙ created-by i (waits c) (leb slotTotal i) refl refl
-    turn-made (On i h) p = touched-by i h (leb slotTotal i) refl
-    turn-made (Append kind key amount) p =
-        append-kept kind key amount
-        (smallest (writerSigns 7 (not (lawful kind key amount)) (not (c .first) && leb logRoom (c .length)) c first)) (c .first)
-        (ltb (c .length) logRoom)
-    turn-made (Open o) p = open-kept o (smallest (writerSigns (columnOf o) false false c first))
-    turn-made Step p = absurd (true≢false p)
-    turn-made Run p = absurd (true≢false p)
+    turn-made os (act.On i h) p = touched-by i h (leb slotTotal i) refl
+    turn-made os (act.Append kind key amount) p = append-made (op kind key amount ∷ [])
+    turn-made os (act.Batch n) p = append-made os
+    turn-made os (act.Open o) p = open-kept o (smallest (writerSigns (columnOf o) false false c first))
+    turn-made os act.Step p = absurd (true≢false p)
+    turn-made os act.Run p = absurd (true≢false p)

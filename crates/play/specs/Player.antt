@@ -11,7 +11,7 @@ use Rattle.write.specs.Machine.{callRule}
 use Rattle.write.specs.World.{World, freshWorld, played}
 use Rattle.play.specs.declared.Reached.{Reached}
 use Rattle.play.specs.declared.Played.{Played}
-use Rattle.format.specs.Schedule.{recordBytes, count, flawOf}
+use Rattle.format.specs.Schedule.{recordBytes, entriesIn, flawOf}
 use Rattle.format.specs.Transcript.{entryBytes, entriesOf}
 use Rattle.play.specs.Schedule.{callsIn, callsOf}
 
@@ -40,7 +40,7 @@ reached s w =
 abbrev pub refusalOf : List ℕ → ℕ → ℕ
 refusalOf s m =
     elim (eqb (flawOf s .answer) 0)
-    [ true ↦ elim (leb (entryBytes * count s) m) [ true ↦ 0 | false ↦ 25 ] | false ↦ flawOf s .answer ]
+    [ true ↦ elim (leb (entryBytes * entriesIn s) m) [ true ↦ 0 | false ↦ 25 ] | false ↦ flawOf s .answer ]
 
 -- ---- the player
 
@@ -57,7 +57,7 @@ unfoldable pub playRule : List ℕ → List ℕ → Output
 playRule s out =
     elim (eqb (refusalOf s (length out)) 0) [
       | true ↦
-          output (record { answer = 0; written = entryBytes * count s })
-          (transcript (callsOf s) freshWorld ++ drop (entryBytes * count s) out)
+          output (record { answer = 0; written = entryBytes * entriesIn s })
+          (transcript (callsOf s) freshWorld ++ drop (entryBytes * entriesIn s) out)
       | false ↦ output (record { answer = refusalOf s (length out); written = 0 }) out
     ]

@@ -1,8 +1,10 @@
 -- The turns of the player's loop, each on the one slot that it looks at. No public contract cites this.
-use Prim.Native.Nat.{ℕ, _+_}
+use Prim.Native.Nat.{ℕ, suc, _+_, _-_, _*_, _/_, min}
 use mathlib.Core.Bool.{Bool, true, false}
 use mathlib.Core.List.{List}
+use lib.ListN.{length}
 use lib.Dec.{eqb, ltb, leb}
+use Rattle.table.specs.Order.{Op}
 use Rattle.table.specs.Answers.{number}
 use Rattle.table.specs.declared.Answer.{Answer}
 use Rattle.table.specs.declared.Answer.the-variants as answer
@@ -18,40 +20,86 @@ use Rattle.read.specs.Admission.{createColumn, entry}
 use Rattle.read.specs.Handles.{handleOn}
 use Rattle.read.specs.Calls.{Lent, lent}
 use Rattle.write.specs.declared.Moved.{Moved}
-use Rattle.write.specs.Call.{Call, Create, On, Append, Open, Step, Run}
+use Rattle.write.specs.Call.{Call, Create, On, Append, Open, Step, Run, appendOne}
 use Rattle.write.specs.Begins.{appendOn, openOn}
 use Rattle.write.specs.Steps.{holds}
+use Rattle.format.specs.Schedule.{recordBytes}
+use Rattle.play.specs.declared.schedule.Act.{Act}
+use Rattle.play.specs.declared.schedule.Act.the-variants as act
 use Rattle.play.specs.declared.turns.Far.{Far}
+use Rattle.play.specs.Schedule.{opsFrom}
+
+-- ---- what a record asks for
+
+abbrev pub meant : List Op → Act → Call
+meant os act.Create = Create
+meant os (act.On i h) = On i h
+meant os (act.Append kind key amount) = appendOne kind key amount
+meant os (act.Batch n) = Append os
+meant os (act.Open o) = Open o
+meant os act.Step = Step
+meant os act.Run = Run
+
+-- how many records belong to it
+abbrev pub membersOf : Act → ℕ
+membersOf act.Create = 0
+membersOf (act.On i h) = 0
+membersOf (act.Append kind key amount) = 0
+membersOf (act.Batch n) = n
+membersOf (act.Open o) = 0
+membersOf act.Step = 0
+membersOf act.Run = 0
+
+-- with those that stand behind the record at byte `at`
+abbrev pub meantAt : List ℕ → ℕ → Act → Call
+meantAt s at a = meant (opsFrom s (at + recordBytes) (membersOf a)) a
+
+-- where the record begins that comes behind these, as many as are there
+abbrev pub behind : List ℕ → ℕ → Act → ℕ
+behind s at a = at + recordBytes * suc (min (membersOf a) ((length s - at) / recordBytes - 1))
 
 -- ---- step and run
 
 -- step or run
-abbrev pub isGoing : Call → Bool
-isGoing Create = false
-isGoing (On i h) = false
-isGoing (Append kind key amount) = false
-isGoing (Open o) = false
-isGoing Step = true
-isGoing Run = true
+abbrev pub isGoing : Act → Bool
+isGoing act.Create = false
+isGoing (act.On i h) = false
+isGoing (act.Append kind key amount) = false
+isGoing (act.Batch n) = false
+isGoing (act.Open o) = false
+isGoing act.Step = true
+isGoing act.Run = true
 
-abbrev pub isRunning : Call → Bool
-isRunning Create = false
-isRunning (On i h) = false
-isRunning (Append kind key amount) = false
-isRunning (Open o) = false
-isRunning Step = false
-isRunning Run = true
+abbrev pub isRunning : Act → Bool
+isRunning act.Create = false
+isRunning (act.On i h) = false
+isRunning (act.Append kind key amount) = false
+isRunning (act.Batch n) = false
+isRunning (act.Open o) = false
+isRunning act.Step = false
+isRunning act.Run = true
 
 -- ---- a call that takes one turn
 
+-- the slot that it names, 0 where it names none
+abbrev pub named : Act → ℕ
+named act.Create = 0
+named (act.On i h) = i
+named (act.Append kind key amount) = 0
+named (act.Batch n) = 0
+named (act.Open o) = 0
+named act.Step = 0
+named act.Run = 0
+
 -- a create passes a slot that is in use
-abbrev pub passes : Call → ℕ → Slot → Bool
-passes Create i s = elim (ltb i slotTotal) [ true ↦ s .used | false ↦ false ]
-passes (On j h) i s = false
-passes (Append kind key amount) i s = false
-passes (Open o) i s = false
-passes Step i s = false
-passes Run i s = false
+abbrev pub passes : Act → ℕ → Slot → Bool
+passes act.Create i s = elim (ltb i slotTotal) [ true ↦ s .used | false ↦ false ]
+passes (act.On j h) i s = false
+passes (act.Append kind key amount) i s = false
+passes (act.Batch n) i s = false
+passes (act.Open o) i s = false
+passes act.Step i s = false
+passes act.Run i s = false
 
 -- create waits for the lock
 abbrev pub waits : Control → Bool
@@ -79,7 +127,7 @@ touched i h c s l r =
 unfoldable pub turnOn : Call → ℕ → Control → Slot → List ℕ → List ℕ → List ℕ → Lent Moved
 turnOn Create i c s l r g = lent (created i c s) l r g
 turnOn (On j h) i c s l r g = lent (touched i h c s l r) l r g
-turnOn (Append kind key amount) i c s l r g = appendOn kind key amount c s 0 l r g
+turnOn (Append os) i c s l r g = appendOn os c s 0 l r g
 turnOn (Open o) i c s l r g = lent (openOn o c s 0) l r g
 turnOn Step i c s l r g = lent (movedAs answer.NotNow 0 c s) l r g
 turnOn Run i c s l r g = lent (movedAs answer.NotNow 0 c s) l r g

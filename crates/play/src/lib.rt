@@ -38,7 +38,8 @@ pub(crate) struct Reached {
 }
 
 // Plays the whole records of a part, which has no head, on a machine that is whole. A turn of the loop is a record, and looks at one
-// slot, which is copied out and in; a run's steps are turns of their own. Only a step changes a snapshot.
+// slot, which is copied out and in; a run's steps are turns of their own, and a batch has its records in one. Only a step changes a
+// snapshot.
 fn play_on(
     st: State,
     s: &[u8],
@@ -83,14 +84,14 @@ fn play_on(
             }
             // Any slot stands for one that is not there: it is left as it is.
             let k = i % SLOTS;
-            let m = turns::turn(call, i, c, slots[k], left, right, log);
+            let m = turns::turn(s, from, call, i, c, slots[k], left, right, log);
             let own = m.slot;
             slots[k] = own;
             c = m.control;
             far = turns::over(m);
         }
         format::put(out, to, far.answer, far.value);
-        from += RECORD;
+        from = schedule::behind(s, from, call);
         to += ENTRY;
     }
     let after = State {
@@ -117,7 +118,7 @@ pub extern "C" fn lrt_play(schedule: &[u8], out: &mut [u8]) -> Played
             written: 0,
         };
     }
-    if out.len() < ENTRY * format::count(schedule) {
+    if out.len() < ENTRY * flaw.entries {
         return Played {
             answer: CROWDED,
             written: 0,

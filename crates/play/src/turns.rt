@@ -1,5 +1,8 @@
 // The turns of the player's loop, each on the one slot that it looks at, which is copied out and in. Step and run are made step by
 // step; every other call takes one turn.
+use crate::schedule;
+use crate::schedule::Act;
+use format::RECORD;
 use read::Control;
 use read::Handle;
 use read::Job;
@@ -10,44 +13,48 @@ use read::admission;
 use read::guards;
 use read::handles;
 use table::Answer;
-use write::Call;
 use write::Moved;
 use write::begins;
 use write::steps;
 ghost use mathlib.Core.Path.{_≡_};
-ghost use Prim.Native.Nat.{_<_, _^_};
+ghost use Prim.Native.Nat.{_+_, _≤_, _<_, _^_};
+ghost use lib.ListN.{length};
+ghost use Rattle.format.specs.Schedule.{recordBytes};
+ghost use Rattle.write.specs.Begins.{appendOn};
+ghost use Rattle.play.specs.Schedule.{opsFrom};
 ghost use Rattle.read.specs.Calls.{lent};
-ghost use Rattle.write.specs.Numbers.{slotOf};
 ghost use Rattle.write.specs.Steps.{holds};
-ghost use Rattle.play.specs.Turns.{isGoing, isRunning, passes as passesRule, waits as waitsRule, movedAs, created, touched, turnOn, halt as haltRule, haltOf, far as farRule, facing as facingRule, over as overRule, ranOn, wentOn};
+ghost use Rattle.play.specs.Turns.{meantAt, named as namedRule, isGoing, isRunning, passes as passesRule, waits as waitsRule, movedAs, created, touched, turnOn, halt as haltRule, haltOf, far as farRule, facing as facingRule, over as overRule, ranOn, wentOn};
 
 // ---- a call that takes one turn
 
 // The slot that a call names, 0 where it names none.
-pub(crate) fn named(call: Call) -> usize
-    ensures { λ r. ⌜ r ≡ slotOf call ⌝ }
+pub(crate) fn named(call: Act) -> usize
+    ensures { λ r. ⌜ r ≡ namedRule call ⌝ }
 {
     match call {
-        Call::Create => 0,
-        Call::On(i, _) => i,
-        Call::Append(_, _, _) => 0,
-        Call::Open(_) => 0,
-        Call::Step => 0,
-        Call::Run => 0,
+        Act::Create => 0,
+        Act::On(i, _) => i,
+        Act::Append(_, _, _) => 0,
+        Act::Batch(_) => 0,
+        Act::Open(_) => 0,
+        Act::Step => 0,
+        Act::Run => 0,
     }
 }
 
 // A create passes a slot that is in use.
-pub(crate) fn passes(call: Call, i: usize, s: Slot) -> bool
+pub(crate) fn passes(call: Act, i: usize, s: Slot) -> bool
     ensures { λ r. ⌜ r ≡ passesRule call i s ⌝ }
 {
     match call {
-        Call::Create => if i < SLOTS { s.used } else { false },
-        Call::On(_, _) => false,
-        Call::Append(_, _, _) => false,
-        Call::Open(_) => false,
-        Call::Step => false,
-        Call::Run => false,
+        Act::Create => if i < SLOTS { s.used } else { false },
+        Act::On(_, _) => false,
+        Act::Append(_, _, _) => false,
+        Act::Batch(_) => false,
+        Act::Open(_) => false,
+        Act::Step => false,
+        Act::Run => false,
     }
 }
 
@@ -97,9 +104,34 @@ fn touch<'a>(i: usize, h: Handle, c: Control, s: Slot, left: &'a [u64], right: &
     moved_as(answer, m.value, c, slot)
 }
 
-// A call at slot `i`, whose snapshot none of these calls looks at or changes. Step and run are made apart.
+// The words of so many operations that they are refused, whatever they are.
+const CROWD: usize = 65;
+
+// A batch of `n`, whose records begin at byte `at`.
+fn batch(
+    schedule: &[u8],
+    at: usize,
+    n: u64,
+    c: Control,
+    s: Slot,
+    left: &mut [u64],
+    right: &mut [u64],
+    log: &mut [u64],
+) -> Moved
+    requires { ⌜ at ≤ length (now schedule) ⌝ }
+    ensures { λ r. ⌜ lent r (now (left .exit)) (now (right .exit)) (now (log .exit)) ≡ appendOn (opsFrom (now (schedule .entry)) at n) c s 0 (now (left .entry)) (now (right .entry)) (now (log .entry)) ⌝ }
+{
+    let k = schedule::fewer(n, CROWD);
+    let mut ops = [0u64; 3 * CROWD];
+    schedule::gather(schedule, at, k, &mut ops);
+    begins::extend_on(&ops[..3 * k], c, s, 0, left, right, log)
+}
+
+// The call of the record at byte `at`, at slot `i`, whose snapshot none of these calls looks at or changes. Step and run are made apart.
 pub(crate) fn turn(
-    call: Call,
+    schedule: &[u8],
+    at: usize,
+    call: Act,
     i: usize,
     c: Control,
     s: Slot,
@@ -107,12 +139,13 @@ pub(crate) fn turn(
     right: &mut [u64],
     log: &mut [u64],
 ) -> Moved
-    ensures { λ r. ⌜ lent r (now (left .exit)) (now (right .exit)) (now (log .exit)) ≡ turnOn call i c s (now (left .entry)) (now (right .entry)) (now (log .entry)) ⌝ }
+    requires { ⌜ at + recordBytes ≤ length (now schedule) ⌝ }
+    ensures { λ r. ⌜ lent r (now (left .exit)) (now (right .exit)) (now (log .exit)) ≡ turnOn (meantAt (now (schedule .entry)) at call) i c s (now (left .entry)) (now (right .entry)) (now (log .entry)) ⌝ }
 {
     match call {
-        Call::Create => create(i, c, s),
-        Call::On(_, h) => touch(i, h, c, s, &left[..], &right[..]),
-        Call::Append(kind, key, amount) => begins::append_on(
+        Act::Create => create(i, c, s),
+        Act::On(_, h) => touch(i, h, c, s, &left[..], &right[..]),
+        Act::Append(kind, key, amount) => begins::append_on(
             kind,
             key,
             amount,
@@ -123,9 +156,10 @@ pub(crate) fn turn(
             right,
             log,
         ),
-        Call::Open(o) => begins::open_on(o, c, s, 0),
-        Call::Step => moved_as(Answer::NotNow, 0, c, s),
-        Call::Run => moved_as(Answer::NotNow, 0, c, s),
+        Act::Batch(n) => batch(schedule, at + RECORD, n, c, s, left, right, log),
+        Act::Open(o) => begins::open_on(o, c, s, 0),
+        Act::Step => moved_as(Answer::NotNow, 0, c, s),
+        Act::Run => moved_as(Answer::NotNow, 0, c, s),
     }
 }
 
@@ -139,29 +173,31 @@ pub(crate) struct Far {
 }
 
 // Step or run.
-pub(crate) fn is_going(call: Call) -> bool
+pub(crate) fn is_going(call: Act) -> bool
     ensures { λ r. ⌜ r ≡ isGoing call ⌝ }
 {
     match call {
-        Call::Create => false,
-        Call::On(_, _) => false,
-        Call::Append(_, _, _) => false,
-        Call::Open(_) => false,
-        Call::Step => true,
-        Call::Run => true,
+        Act::Create => false,
+        Act::On(_, _) => false,
+        Act::Append(_, _, _) => false,
+        Act::Batch(_) => false,
+        Act::Open(_) => false,
+        Act::Step => true,
+        Act::Run => true,
     }
 }
 
-fn is_run(call: Call) -> bool
+fn is_run(call: Act) -> bool
     ensures { λ r. ⌜ r ≡ isRunning call ⌝ }
 {
     match call {
-        Call::Create => false,
-        Call::On(_, _) => false,
-        Call::Append(_, _, _) => false,
-        Call::Open(_) => false,
-        Call::Step => false,
-        Call::Run => true,
+        Act::Create => false,
+        Act::On(_, _) => false,
+        Act::Append(_, _, _) => false,
+        Act::Batch(_) => false,
+        Act::Open(_) => false,
+        Act::Step => false,
+        Act::Run => true,
     }
 }
 
@@ -247,7 +283,7 @@ fn ran_on(n: u64, m: Moved, c: Control, s: Slot, e: u64) -> Far
 }
 
 // A step or a run behind a step, of which `n` were made before.
-pub(crate) fn went_on(call: Call, n: u64, m: Moved, c: Control, s: Slot, e: u64) -> Far
+pub(crate) fn went_on(call: Act, n: u64, m: Moved, c: Control, s: Slot, e: u64) -> Far
     requires { ⌜ n < 2 ^ 32 ⌝ }
     ensures { λ r. ⌜ r ≡ wentOn (isRunning call) n m (haltOf c s e) ⌝ }
 {

@@ -1,0 +1,37 @@
+-- Before a turn the words before 3 i are the operations of i records.
+use Prim.Native.Nat.{_+_, _-_, _*_, _≤_}
+use mathlib.Core.Path.{_≡_, refl, ap, _∙_}
+use native.Mathlib.Omega.{arith}
+use borrow.Author.Needs.{needs}
+use lib.ListN.{length, length-set, take}
+use Rattle.table.proofs.Needs.{all15}
+use Rattle.write.specs.Call.{opsIn}
+use Rattle.play.specs.Schedule.{opsFrom}
+use Rattle.play.proofs.Gathered.{gathered}
+use Rattle.play.proofs.schedule.gather.Statement.{statement}
+use Rattle.play.proofs.schedule.gather.Tie as tie
+
+abbrev Inv-loop : tie.InvT-loop
+Inv-loop s at n ops₀ i₀ ops i =
+    (i ≤ n) × (at ≤ length s) × (n ≤ 65) × (3 * n ≤ length ops₀) × (length ops ≡ length ops₀) × (opsIn (take (3 * i) ops) ≡ opsFrom s at i)
+
+abbrev μ-loop : tie.MeasureT-loop
+μ-loop s at n ops₀ i₀ ops i = n - i
+
+loop-holds : tie.Need-loop-holds Inv-loop μ-loop
+loop-holds c = (omega arith, c .before .before .pre .0, c .before .before .pre .1, c .before .before .pre .2, refl, refl)
+
+loop-again : tie.Need-loop-again Inv-loop μ-loop
+loop-again c =
+    let at = c .before .before in
+    let a = at .before .before .before .args in
+    let v = at .loop in
+    (omega arith, v .inv .1, v .inv .2, v .inv .3, simp length-set (v .inv .4), gathered (a .s .now) (a .at) (v .i) (v .ops) (c .fields-at .ensures) (omega (arith, v .inv .3, v .inv .4)) (v .inv .5))
+
+returns : tie.Need-returns Inv-loop μ-loop
+returns c =
+    let v = c .before .loop in
+    ap (λ n. opsIn (take (3 * n) (v .ops))) (omega arith) ∙ v .inv .5 ∙ ap (opsFrom _ _) (omega arith)
+
+pub gather-spec : {M : Type 1} → statement M
+gather-spec = tie.close (all15 (tie.spec Inv-loop μ-loop loop-holds) (omega arith) loop-again (λ c. search needs) returns)

@@ -1,0 +1,18 @@
+-- Of more than there is room for, so many as are refused alike.
+use mathlib.Core.Path.{ap, _∙_}
+use native.Mathlib.Omega.{arith}
+use borrow.Author.Needs.{needs}
+use Rattle.table.proofs.Needs.{all3}
+use Rattle.play.proofs.Gathered.{batch-taken}
+use Rattle.play.proofs.turns.batch.Statement.{statement}
+use Rattle.play.proofs.turns.batch.Tie as tie
+
+gather-requires : tie.Need-gather-requires
+gather-requires c κs = (c .before .before .before .before .before .before .pre, omega (arith, c .before .fewer .ensures), omega (arith, c .before .fewer .ensures))
+
+returns : tie.Need-returns
+returns c = ?
+
+pub batch-spec : {M : Type 1} → statement M
+batch-spec =
+    tie.close (all3 (tie.spec (λ c κs. search needs) (λ c. search needs) gather-requires (λ c. omega arith) (λ c. omega arith) (λ c. search needs) (λ c κs. search needs)) (omega arith) returns)
