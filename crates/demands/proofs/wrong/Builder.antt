@@ -23,7 +23,7 @@ pub builder : (k : Call) (st : State) (l r g : List ℕ) → withStep stepAt k s
 unfolding withStep callRule callOn stepBy stepOn runOn runWhile
 builder Create st l r g = refl
 builder (On i h) st l r g = refl
-builder (Append kind key amount) st l r g = refl
+builder (Append os) st l r g = refl
 builder (Open o) st l r g = refl
 builder Step st l r g = refl
 builder Run st l r g = refl

@@ -9,7 +9,7 @@ use Rattle.table.proofs.Computes.{apart}
 use Rattle.read.specs.declared.State.{State}
 use Rattle.read.specs.Machine.{fresh, place}
 use Rattle.write.specs.declared.Opening.the-variants.{Publish}
-use Rattle.write.specs.Call.{Create, Append, Step}
+use Rattle.write.specs.Call.{Create, appendOne, Step}
 use Rattle.write.specs.Steps.{withLog}
 use Rattle.write.specs.World.{World, freshWorld}
 use Rattle.demands.specs.Demand1.{Lengths, Sized, Fit, Demand1, Starts}
@@ -63,16 +63,16 @@ anyState-wrong h = differ refl (h .broken Create brokenWorld fresh-sized (λ f. 
 -- otherwise
 pub callsShort-wrong : Demand1 callsShort → ⊥
 unfolding tells
-callsShort-wrong h = h .otherwise (Append 1 7 0) freshWorld fresh-sized fresh-fit .0 refl
+callsShort-wrong h = h .otherwise (appendOne 1 7 0) freshWorld fresh-sized fresh-fit .0 refl
 
 pub callsBroken-wrong : Demand1 callsBroken → ⊥
 unfolding tells
-callsBroken-wrong h = h .otherwise (Append 1 7 0) freshWorld fresh-sized fresh-fit .1 refl
+callsBroken-wrong h = h .otherwise (appendOne 1 7 0) freshWorld fresh-sized fresh-fit .1 refl
 
 -- unchanged
 pub refusalWrites-wrong : Demand1 refusalWrites → ⊥
 unfolding tells
-refusalWrites-wrong h = apart (λ w. getD (w .left) 2 0) refl (h .unchanged (Append 1 7 0) freshWorld refl)
+refusalWrites-wrong h = apart (λ w. getD (w .left) 2 0) refl (h .unchanged (appendOne 1 7 0) freshWorld refl)
 
 -- of a single step that answers 13 too
 pub heldMovesOn-wrong : Demand1 heldMovesOn → ⊥
@@ -83,7 +83,7 @@ heldMovesOn-wrong h =
 -- valueless
 pub refusalCounts-wrong : Demand1 refusalCounts → ⊥
 unfolding tells
-refusalCounts-wrong h = differ refl (h .valueless (Append 1 7 0) freshWorld refl)
+refusalCounts-wrong h = differ refl (h .valueless (appendOne 1 7 0) freshWorld refl)
 
 -- ---- starts
 
