@@ -14,9 +14,9 @@ use Rattle.write.specs.declared.Opening.the-variants.{Publish, Try, Flush, Take
 use Rattle.write.specs.Call.{Call, Create, On, Append, appendOne, Open, Step, Run}
 use Rattle.write.specs.Runs.{snapAt}
 use Rattle.demands.specs.Demands.{Demands}
-use Rattle.demands.specs.KnownEnds.{publish, enters}
+use Rattle.demands.specs.KnownEnds.{publish, adds, enters}
 use Rattle.demands.proofs.wrong.Machines.{passesReaders, holdsAll, heldByEven, comparesGreater, heldByAnyone, skipsPolls, startsOver, tryWaits, forgetsSlot, snapsFree, skipsSlot, nullsEarly, oldSnapshots, ignoresSteps, leavesCopying, copyTrails, leavesIndex, drainLeaves, spills, idleTry, leavesOther, zeroesBoth, handsOther, leavesLog, inventsValue, runsOnce, runsFree, runClears, runsPast, runDeclines, runSlips, refusesAll, doesNothing, twoSlots, createsLocked, clearsAtCreate, clearsAtDrop, entersSnapped, closesThird, keepsGuard, roundsSoon, showsEmpty, appendsToRead, oddClear, dropTrails, fullEarly, publishTries, swapsAtBegin, flushTries, flushesFirst, flushForgets, takesUnpublished}
-use Rattle.demands.proofs.wrong.Histories.{tells, differ, adds, steps, again, entered, snapped, meeting, replaced, meetingNew, reading}
+use Rattle.demands.proofs.wrong.Histories.{tells, differ, steps, again, entered, snapped, meeting, replaced, meetingNew, reading}
 
 -- ---- answers
 
