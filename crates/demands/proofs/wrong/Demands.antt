@@ -7,6 +7,7 @@ use native.Mathlib.Omega.{arith}
 use lib.ListN.{length, getD, replicate}
 use lib.Dec.{lit≤}
 use Rattle.table.specs.Copy.{words}
+use Rattle.table.specs.Order.{op}
 use Rattle.table.proofs.Computes.{apart}
 use Rattle.read.specs.declared.Handle.the-variants.{Drop, Enter, Release, LookUp}
 use Rattle.read.specs.Machine.{slotCount, place}
@@ -15,8 +16,8 @@ use Rattle.write.specs.Call.{Call, Create, On, Append, appendOne, Open, Step, R
 use Rattle.write.specs.Runs.{snapAt}
 use Rattle.demands.specs.Demands.{Demands}
 use Rattle.demands.specs.KnownEnds.{publish, adds, enters}
-use Rattle.demands.proofs.wrong.Machines.{passesReaders, holdsAll, heldByEven, comparesGreater, heldByAnyone, skipsPolls, startsOver, tryWaits, forgetsSlot, snapsFree, skipsSlot, nullsEarly, oldSnapshots, ignoresSteps, leavesCopying, copyTrails, leavesIndex, drainLeaves, spills, idleTry, leavesOther, zeroesBoth, handsOther, leavesLog, inventsValue, runsOnce, runsFree, runClears, runsPast, runDeclines, runSlips, refusesAll, doesNothing, twoSlots, createsLocked, clearsAtCreate, clearsAtDrop, entersSnapped, closesThird, keepsGuard, roundsSoon, showsEmpty, appendsToRead, oddClear, dropTrails, fullEarly, publishTries, swapsAtBegin, flushTries, flushesFirst, flushForgets, takesUnpublished}
-use Rattle.demands.proofs.wrong.Histories.{tells, differ, steps, again, entered, snapped, meeting, replaced, meetingNew, reading}
+use Rattle.demands.proofs.wrong.Machines.{passesReaders, holdsAll, heldByEven, comparesGreater, heldByAnyone, skipsPolls, startsOver, tryWaits, forgetsSlot, snapsFree, skipsSlot, nullsEarly, oldSnapshots, ignoresSteps, leavesCopying, copyTrails, leavesIndex, drainLeaves, spills, idleTry, leavesOther, zeroesBoth, handsOther, leavesLog, inventsValue, runsOnce, runsFree, runClears, runsPast, runDeclines, runSlips, refusesAll, doesNothing, twoSlots, createsLocked, clearsAtCreate, clearsAtDrop, entersSnapped, closesThird, keepsGuard, roundsSoon, showsEmpty, appendsToRead, oddClear, dropTrails, fullEarly, backwards, takesSome, takesMore, refusesEmpty, publishTries, swapsAtBegin, flushTries, flushesFirst, flushForgets, takesUnpublished}
+use Rattle.demands.proofs.wrong.Histories.{tells, differ, steps, again, entered, snapped, meeting, replaced, meetingNew, crowded, reading}
 
 -- ---- answers
 
@@ -122,10 +123,25 @@ pub leavesIndex-wrong : Demands leavesIndex → ⊥
 unfolding tells
 leavesIndex-wrong h = differ refl (h .answers (publish ++ (appendOne 1 7 3 ∷ publish ++ (Open Publish ∷ steps (1 + slotCount)))) Step refl)
 
--- the log can hold them all
+-- a batch that the log can hold is taken
 pub fullEarly-wrong : Demands fullEarly → ⊥
 unfolding tells
 fullEarly-wrong h = differ refl (h .answers (publish ++ replicate 3 (Append (adds 64))) (Append (adds 64)) refl)
+
+-- and one that it cannot hold is refused
+pub takesSome-wrong : Demands takesSome → ⊥
+unfolding tells
+takesSome-wrong h = differ refl (h .answers crowded (Append (adds 60)) refl)
+
+-- so is one of more than 64 operations
+pub takesMore-wrong : Demands takesMore → ⊥
+unfolding tells
+takesMore-wrong h = differ refl (h .answers [] (Append (adds 65)) refl)
+
+-- an empty one is taken
+pub refusesEmpty-wrong : Demands refusesEmpty → ⊥
+unfolding tells
+refusesEmpty-wrong h = differ refl (h .answers [] (Append []) refl)
 
 -- ---- values
 
@@ -217,6 +233,11 @@ swapsAtBegin-wrong h = apart (λ p. getD p 3 0) refl (h .shows (Create ∷ appen
 pub appendsToRead-wrong : Demands appendsToRead → ⊥
 unfolding tells
 appendsToRead-wrong h = apart (λ p. getD p 3 0) refl (h .shows (entered ++ (appendOne 1 7 3 ∷ [])) 1 0)
+
+-- what an operation did is undone by the one behind it
+pub backwards-wrong : Demands backwards → ⊥
+unfolding tells
+backwards-wrong h = apart (λ p. getD p 3 0) refl (h .shows (Create ∷ Append (op 1 7 3 ∷ op 2 7 0 ∷ []) ∷ publish ++ enters 1) 1 0)
 
 -- a word that no look up finds wrong
 pub spills-wrong : Demands spills → ⊥

@@ -11,11 +11,11 @@ use Rattle.table.proofs.Computes.{apart}
 use Rattle.read.specs.declared.Handle.the-variants.{Drop, Enter, Release}
 use Rattle.read.specs.Machine.{slotCount}
 use Rattle.write.specs.declared.Opening.the-variants.{Publish, Take}
-use Rattle.write.specs.Call.{Call, Create, On, appendOne, Open, Step, Run}
+use Rattle.write.specs.Call.{Call, Create, On, Append, appendOne, Open, Step, Run}
 use Rattle.write.specs.Numbers.{callNumber}
 use Rattle.demands.specs.Follows.{Follows}
-use Rattle.demands.specs.KnownEnds.{publish, enters, p5, cases, KnownEnds}
-use Rattle.demands.proofs.wrong.Machines.{inventsValue, publishTries, takeDeclines, snapsEven, finishTurns, createsOne, dropZeroes, dropKeeps, dropsOpen, entersZero, goesToSeven, publishesInside, publishesGone, acceptsBusy, neverRounds}
+use Rattle.demands.specs.KnownEnds.{publish, adds, enters, p5, cases, KnownEnds}
+use Rattle.demands.proofs.wrong.Machines.{inventsValue, publishTries, takeDeclines, snapsEven, finishTurns, createsOne, dropZeroes, dropKeeps, dropsOpen, entersZero, goesToSeven, stirsEach, countsNone, publishesInside, publishesGone, acceptsBusy, neverRounds}
 use Rattle.demands.proofs.KnownEnds.{known-end}
 use Rattle.demands.proofs.wrong.Histories.{tells, differ, entered, snapped, meeting}
 
@@ -119,6 +119,14 @@ dropKeeps-wrong h = true≢false (h .epochs (Create ∷ On 1 Drop ∷ []) 1 (lit
 pub dropZeroes-wrong : Follows dropZeroes → ⊥
 unfolding tells
 dropZeroes-wrong h = differ refl (h .epochs (entered ++ (On 1 (Release 0) ∷ On 1 Drop ∷ [])) 1 (lit≤ tt) .1)
+
+pub stirsEach-wrong : Follows stirsEach → ⊥
+unfolding tells
+stirsEach-wrong h = differ refl (h .epochs (Append (adds 2) ∷ []) 0 (lit≤ tt) .1)
+
+pub countsNone-wrong : Follows countsNone → ⊥
+unfolding tells
+countsNone-wrong h = differ refl (h .epochs (Append [] ∷ []) 0 (lit≤ tt) .1)
 
 -- its snapshot
 pub snapsEven-wrong : Follows snapsEven → ⊥
