@@ -86,7 +86,7 @@ module _ (c : Control) (t : Slot) (e : ℕ) (l r g : List ℕ) where
   unfolding appendOn smallest
   too-many os h =
       ap (λ (b : Bool). by (smallest (writerSigns 7 (not (b && allLawful os)) (crowds (length os) c) c t))) (lt-leb (length os) batchRoom h)
-      ∙ go (isGone (c .phase)) _
+      ∙ go (isGone (c .phase)) (drop 2 (writerSigns 7 true (crowds (length os) c) c t))
     where
       by : Verdict → Lent Moved
       by v = elim v [ Admitted ↦ appended (c .first) os c t e l r g | Refused a ↦ lent (refused a c t e) l r g ]

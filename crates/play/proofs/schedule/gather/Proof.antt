@@ -1,10 +1,10 @@
 -- Before a turn the words before 3 i are the operations of i records.
-use Prim.Native.Nat.{_+_, _-_, _*_, _≤_}
-use mathlib.Core.Path.{_≡_, refl, ap, _∙_}
+use Prim.Native.Nat.{ℕ, _+_, _-_, _*_, _≤_}
+use mathlib.Core.Path.{_≡_, refl, subst}
 use native.Mathlib.Omega.{arith}
 use borrow.Author.Needs.{needs}
 use lib.ListN.{length, length-set, take}
-use Rattle.table.proofs.Needs.{all15}
+use Rattle.table.proofs.Needs.{all2, all3, all9}
 use Rattle.write.specs.Call.{opsIn}
 use Rattle.play.specs.Schedule.{opsFrom}
 use Rattle.play.proofs.Gathered.{gathered}
@@ -30,8 +30,11 @@ loop-again c =
 
 returns : tie.Need-returns Inv-loop μ-loop
 returns c =
+    let a = c .before .before .before .before .args in
     let v = c .before .loop in
-    ap (λ n. opsIn (take (3 * n) (v .ops))) (omega arith) ∙ v .inv .5 ∙ ap (opsFrom _ _) (omega arith)
+    let e : v .i ≡ a .n = omega arith in
+    subst (λ (n : ℕ). opsIn (take (3 * n) (v .ops)) ≡ opsFrom (a .s .now) (a .at) n) e (v .inv .5)
 
 pub gather-spec : {M : Type 1} → statement M
-gather-spec = tie.close (all15 (tie.spec Inv-loop μ-loop loop-holds) (omega arith) loop-again (λ c. search needs) returns)
+gather-spec =
+    tie.close (all2 (all3 (all9 (tie.spec Inv-loop μ-loop loop-holds) (omega arith) (λ c. search needs)) (omega arith) (λ c. search needs)) (omega arith) loop-again (λ c. search needs) returns)

@@ -1,5 +1,5 @@
 -- Of more than there is room for, so many as are refused alike.
-use mathlib.Core.Path.{ap, _∙_}
+use mathlib.Core.Path.{_∙_}
 use native.Mathlib.Omega.{arith}
 use borrow.Author.Needs.{needs}
 use Rattle.table.proofs.Needs.{all3}
@@ -11,7 +11,12 @@ gather-requires : tie.Need-gather-requires
 gather-requires c κs = (c .before .before .before .before .before .before .pre, omega (arith, c .before .fewer .ensures), omega (arith, c .before .fewer .ensures))
 
 returns : tie.Need-returns
-returns c = ?
+returns c =
+    let e = c .before .before .before .before .before .before in
+    let g = e .before .before .before .before .before .before in
+    let a = g .before .before .before .before .before .before .before .args in
+    e .extend-on .ensures
+    ∙ batch-taken (a .c) (a .s) 0 (a .left .now) (a .right .now) (a .log .now) (a .schedule .now) (a .at) (a .n) (g .before .before .fewer .ensures) (g .gather .ensures)
 
 pub batch-spec : {M : Type 1} → statement M
 batch-spec =

@@ -1,57 +1,65 @@
 -- Each result is the rule's at the call that the match found.
 use mathlib.Core.Path.{sym, ap, _∙_}
 use Rattle.read.specs.Calls.{lent}
-use Rattle.write.specs.Call.{Call}
 use Rattle.write.specs.declared.Moved.{Moved}
-use Rattle.play.specs.Turns.{turnOn}
+use Rattle.play.specs.declared.schedule.Act.{Act}
+use Rattle.play.specs.Turns.{meantAt, turnOn}
 use native.Mathlib.Omega.{arith}
 use borrow.Author.Needs.{needs}
-use Rattle.table.proofs.Needs.{all3, all12}
+use Rattle.table.proofs.Needs.{all3, all15}
 use Rattle.play.proofs.turns.turn.Statement.{statement}
 use Rattle.play.proofs.turns.turn.Tie as tie
 
 returns : tie.Need-returns
 unfolding turnOn
 returns c =
-    let a = c .before .before .before .before .before .before .args in
+    let a = c .before .before .before .before .before .before .before .args in
     ap (λ (x : Moved). lent x (a .left .now) (a .right .now) (a .log .now)) (c .create .ensures)
-    ∙ sym (ap (λ (k : Call). turnOn k (a .i) (a .c) (a .s) (a .left .now) (a .right .now) (a .log .now)) (c .before .enum-told .given .1))
+    ∙ sym (ap (λ (k : Act). turnOn (meantAt (a .schedule .now) (a .at) k) (a .i) (a .c) (a .s) (a .left .now) (a .right .now) (a .log .now)) (c .before .enum-told .given .1))
 
 returns-2 : tie.Need-returns-2
 unfolding turnOn
 returns-2 c =
-    let a = c .before .before .before .before .before .before .before .before .before .args in
+    let a = c .before .before .before .before .before .before .before .before .before .before .args in
     ap (λ (x : Moved). lent x (a .left .now) (a .right .now) (a .log .now)) (c .touch .ensures)
-    ∙ sym (ap (λ (k : Call). turnOn k (a .i) (a .c) (a .s) (a .left .now) (a .right .now) (a .log .now)) (c .before .before .before .before .call .given .1))
+    ∙ sym (ap (λ (k : Act). turnOn (meantAt (a .schedule .now) (a .at) k) (a .i) (a .c) (a .s) (a .left .now) (a .right .now) (a .log .now)) (c .before .before .before .before .call .given .1))
 
 returns-3 : tie.Need-returns-3
 unfolding turnOn
 returns-3 c =
-    let a = c .before .before .before .before .before .before .before .before .before .before .before .before .before .before .before .before .args in
+    let a = c .before .before .before .before .before .before .before .before .before .before .before .before .before .before .before .before .before .args in
     c .before .before .before .before .before .before .append-on .ensures
-    ∙ sym (ap (λ (k : Call). turnOn k (a .i) (a .c) (a .s) (a .left .now) (a .right .now) (a .log .now)) (c .before .before .before .before .before .before .before .before .before .before .before .call2 .given .1))
+    ∙ sym (ap (λ (k : Act). turnOn (meantAt (a .schedule .now) (a .at) k) (a .i) (a .c) (a .s) (a .left .now) (a .right .now) (a .log .now)) (c .before .before .before .before .before .before .before .before .before .before .before .call2 .given .1))
 
 returns-4 : tie.Need-returns-4
 unfolding turnOn
 returns-4 c =
-    let a = c .before .before .before .before .before .before .before .args in
-    ap (λ (x : Moved). lent x (a .left .now) (a .right .now) (a .log .now)) (c .open-on .ensures)
-    ∙ sym (ap (λ (k : Call). turnOn k (a .i) (a .c) (a .s) (a .left .now) (a .right .now) (a .log .now)) (c .before .before .call3 .given .1))
+    let b = c .before .before .before .before .before .before in
+    let a = b .before .before .before .before .before .before .before .before .before .before .before .args in
+    b .batch .ensures
+    ∙ sym (ap (λ (k : Act). turnOn (meantAt (a .schedule .now) (a .at) k) (a .i) (a .c) (a .s) (a .left .now) (a .right .now) (a .log .now)) (b .before .before .before .before .before .call3 .given .1))
 
 returns-5 : tie.Need-returns-5
 unfolding turnOn
 returns-5 c =
-    let a = c .before .before .before .before .before .before .args in
-    ap (λ (x : Moved). lent x (a .left .now) (a .right .now) (a .log .now)) (c .moved-as .ensures)
-    ∙ sym (ap (λ (k : Call). turnOn k (a .i) (a .c) (a .s) (a .left .now) (a .right .now) (a .log .now)) (c .before .enum-told2 .given .1))
+    let a = c .before .before .before .before .before .before .before .before .args in
+    ap (λ (x : Moved). lent x (a .left .now) (a .right .now) (a .log .now)) (c .open-on .ensures)
+    ∙ sym (ap (λ (k : Act). turnOn (meantAt (a .schedule .now) (a .at) k) (a .i) (a .c) (a .s) (a .left .now) (a .right .now) (a .log .now)) (c .before .before .call4 .given .1))
 
 returns-6 : tie.Need-returns-6
 unfolding turnOn
 returns-6 c =
-    let a = c .before .before .before .before .before .before .args in
+    let a = c .before .before .before .before .before .before .before .args in
+    ap (λ (x : Moved). lent x (a .left .now) (a .right .now) (a .log .now)) (c .moved-as .ensures)
+    ∙ sym (ap (λ (k : Act). turnOn (meantAt (a .schedule .now) (a .at) k) (a .i) (a .c) (a .s) (a .left .now) (a .right .now) (a .log .now)) (c .before .enum-told2 .given .1))
+
+returns-7 : tie.Need-returns-7
+unfolding turnOn
+returns-7 c =
+    let a = c .before .before .before .before .before .before .before .args in
     ap (λ (x : Moved). lent x (a .left .now) (a .right .now) (a .log .now)) (c .moved-as2 .ensures)
-    ∙ sym (ap (λ (k : Call). turnOn k (a .i) (a .c) (a .s) (a .left .now) (a .right .now) (a .log .now)) (c .before .enum-told3 .given .1))
+    ∙ sym (ap (λ (k : Act). turnOn (meantAt (a .schedule .now) (a .at) k) (a .i) (a .c) (a .s) (a .left .now) (a .right .now) (a .log .now)) (c .before .enum-told3 .given .1))
 
 pub turn-spec : {M : Type 1} → statement M
 turn-spec =
-    tie.close (all3 (all12 tie.spec (omega arith) returns (λ c. search needs) (λ c. search needs) returns-2) (omega arith) returns-3 returns-4 returns-5 returns-6)
+    tie.close (all3 (all3 (all15 tie.spec (omega arith) returns (λ c. search needs) (λ c. search needs) returns-2) (omega arith) returns-3) (omega arith) returns-4 returns-5 returns-6 returns-7)
