@@ -177,6 +177,7 @@ pub(crate) fn all(fd: i32, schedule: &[u8], transcript: &[u8]) -> bool {
     let mut page = [0u8; SIZE];
     let mut n = 0;
     let mut i = 0;
+    // Where the next entry stands, and how many of the records to come belong to the batch above them.
     let mut entry = 0;
     let mut left = 0;
     while i < records {
