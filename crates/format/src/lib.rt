@@ -23,10 +23,10 @@ const TORN: u64 = 23;
 
 const BAD: u64 = 24;
 
-// The calls of an operation and of a batch of them.
+// The calls of an operation and of a batch of them, which is the last of the calls.
 const APPEND: u8 = 8;
 
-const BATCH: u8 = 15;
+pub const BATCH: u8 = 15;
 
 // What is wrong with a schedule, and the record at which it was found; 0 where nothing is. With it how many entries the transcript
 // will have; 0 where something is wrong.

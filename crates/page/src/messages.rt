@@ -24,7 +24,7 @@ fn begin(name: &[u8]) {
 // that the schedule has.
 fn reason(answer: u64) {
     let rows =
-        b", mark (a schedule begins with LRT and a version), before record |, version (only 1 is known), before record |, torn record (a record has 20 bytes), at record |, a call not 1 to 14, at record |, output too short, at record ";
+        b", mark (a schedule begins with LRT and a version), before record |, version (only 1 is known), before record |, torn record (a record has 20 bytes), at record |, a call not 1 to 15, or a batch whose appends are not there, at record |, output too short, at record ";
     say(row(rows, std::num::wrapping_sub_u64(answer, MARK)));
 }
 

@@ -1,5 +1,4 @@
 // A schedule's records and what came of them, one to a line.
-use crate::RECORDS;
 use crate::files::start;
 use crate::gather::SIZE;
 use crate::gather::blanks;
@@ -7,6 +6,7 @@ use crate::gather::number;
 use crate::gather::put;
 use crate::gather::text;
 use crate::rows::row;
+use format::BATCH;
 use format::ENTRY;
 use format::Fields;
 use format::HEAD;
@@ -117,7 +117,7 @@ fn call(page: &mut [u8; SIZE], at: usize, f: Fields) -> usize
     ensures { λ r. ⌜ OnPage r ⌝ }
 {
     let calls =
-        b"?|create|drop slot S|enter slot S|go-on slot S|release slot S guard G|look-up slot S guard G key K|was-dropped slot S|append O key K amount A|publish|try|flush|take|step|run|?";
+        b"?|create|drop slot S|enter slot S|go-on slot S|release slot S guard G|look-up slot S guard G key K|was-dropped slot S|append O key K amount A|publish|try|flush|take|step|run|batch of A|?";
     fill(page, at, row(calls, f.call), f)
 }
 
@@ -148,23 +148,49 @@ fn line(page: &mut [u8; SIZE], at: usize, i: u64, f: Fields, entry: &[u8]) -> us
     put(page, n, b'\n')
 }
 
+// One that belongs to the batch above it: indented, and with no entry.
+fn member(page: &mut [u8; SIZE], at: usize, i: u64, f: Fields) -> usize
+    requires { ⌜ OnPage at ⌝ }
+    ensures { λ r. ⌜ OnPage r ⌝ }
+{
+    let n = number(page, at, i, at + NUMBER_WIDE);
+    let n = blanks(page, n, n + GAP + GAP);
+    let n = call(page, n, f);
+    put(page, n, b'\n')
+}
+
 fn write(fd: i32, page: &[u8; SIZE], n: usize) -> bool {
     io::write_all(fd, start(page, n))
 }
 
-// Writes every record of a schedule with its entry, and answers whether all could be written.
+// How many of the records behind a record belong to it.
+fn members(f: Fields) -> u64 {
+    if f.call == BATCH as u64 {
+        return f.amount;
+    }
+    0
+}
+
+// Writes every record of a schedule, those with an entry with it, and answers whether all could be written.
 pub(crate) fn all(fd: i32, schedule: &[u8], transcript: &[u8]) -> bool {
+    let records = format::count(schedule);
     let mut page = [0u8; SIZE];
     let mut n = 0;
     let mut i = 0;
-    while i < RECORDS {
-        let entry = rest(transcript, i * ENTRY);
-        if entry.len() == 0 {
-            break;
-        }
+    // Where the next entry stands, and how many of the records to come belong to the batch above them.
+    let mut entry = 0;
+    let mut left = 0;
+    while i < records {
         let f = format::fields_at(schedule, HEAD + i * RECORD);
         i += 1;
-        n = line(&mut page, n, i as u64, f, entry);
+        if left > 0 {
+            n = member(&mut page, n, i as u64, f);
+            left -= 1;
+        } else {
+            n = line(&mut page, n, i as u64, f, rest(transcript, entry));
+            entry += ENTRY;
+            left = members(f);
+        }
         if n > SIZE - LONGEST {
             if !write(fd, &page, n) {
                 return false;
