@@ -10,7 +10,7 @@ use Rattle.format.specs.Schedule.{flawOf}
 use Rattle.play.specs.Schedule.{callsIn}
 use Rattle.play.specs.Player.{transcript}
 use Rattle.play.proofs.Lengths.{part-length, part-written, part-bytes, fresh-world, fresh-whole}
-use Rattle.format.proofs.Records.{flawless-within}
+use Rattle.format.proofs.Records.{flawless}
 use Rattle.play.proofs.Rule.{play-flawed, play-short, play-made}
 use borrow.Author.Needs.{needs}
 use Rattle.table.proofs.Needs.{all2, all4}
@@ -24,7 +24,7 @@ sound c = ap (λ (f : Flaw). f .answer) (sym (c .before .before .check .ensures)
 
 -- so it has its head
 long : (t : tie.After-fresh-state) → 5 ≤ length (t .before .before .before .before .before .before .before .before .args .schedule .now)
-long t = omega (arith, flawless-within (t .before .before .before .before .before .before .before .before .args .schedule .now) (sound (t .before .before .before)))
+long t = omega (arith, flawless (t .before .before .before .before .before .before .before .before .args .schedule .now) (sound (t .before .before .before)) .whole)
 
 returns : tie.Need-returns
 returns c =
