@@ -14,12 +14,15 @@ fn with_members(turn: &Turn, members: &[Record]) -> Turn {
 }
 
 fn simpler(turn: &Turn) -> Vec<Turn> {
-    if turn[0].call == call::BATCH {
-        let own = Record::batch(turn[0].amount);
-        let plain = vec![Record::append(kind::ADD, 1, 1); turn.len() - 1];
-        return vec![[vec![own], plain].concat(), [&[own], &turn[1..]].concat()];
-    }
     let record = &turn[0];
+    if record.call == call::BATCH {
+        let with = |member: fn(&Record) -> Record| {
+            let members: Turn = turn[1..].iter().map(member).collect();
+            [vec![Record::batch(record.amount)], members].concat()
+        };
+        let same = with(|_| Record::append(kind::ADD, 1, 1));
+        return vec![same, with(|member| Record::append(member.kind, member.key, member.amount))];
+    }
     let none = Record::of(record.call);
     let mut offers = vec![none];
     for (slot, guard, key, amount) in [
@@ -34,8 +37,7 @@ fn simpler(turn: &Turn) -> Vec<Turn> {
         offers.push(Record { slot, guard, key, amount, ..none });
         offers.push(Record { slot, guard, key, amount, kind: record.kind, ..none });
     }
-    offers.retain(|offer| offer != record);
-    offers.into_iter().map(|offer| vec![offer]).collect()
+    offers.into_iter().take_while(|offer| offer != record).map(|offer| vec![offer]).collect()
 }
 
 /// Shrinks the case that differs, and prints it.
