@@ -83,8 +83,8 @@ fn said(player: Player) -> Result<String, String> {
 fn main() -> ExitCode {
     let mut words = std::env::args().skip(1).peekable();
     let file = words.next_if(|word| word == "sample").map(|_| words.next().expect("a file for the sample"));
-    let histories = common::number(words.next(), if file.is_some() { 150 } else { 100_000 });
-    let seed = common::number(words.next(), if file.is_some() { 8289 } else { 1 });
+    let histories = common::number(words.next(), if file.is_some() { 120 } else { 100_000 });
+    let seed = common::number(words.next(), if file.is_some() { 2391 } else { 1 });
     let (name, player) = match lrt::player() {
         Some(player) => ("the proved player", player),
         None => ("the reference player", reference::play as Player),
