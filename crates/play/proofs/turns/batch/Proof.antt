@@ -1,5 +1,6 @@
 -- Of more than there is room for, so many as are refused alike.
-use mathlib.Core.Path.{_∙_}
+use mathlib.Core.Path.{sym, _∙_}
+use lib.Seq.{length-take-le}
 use native.Mathlib.Omega.{arith}
 use borrow.Author.Needs.{needs}
 use Rattle.table.proofs.Needs.{all3}
@@ -14,7 +15,7 @@ share : tie.Need-array-share-prefix-ops
 share c = omega (arith, c .before .before .before .fewer .ensures, c .ops2 .given)
 
 prefix : tie.Need-slice-aggregate-extend-on
-prefix c = ?
+prefix c = sym (length-take-le _ _ (share (c .before)))
 
 returns : tie.Need-returns
 returns c =
