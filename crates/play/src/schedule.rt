@@ -132,9 +132,12 @@ pub(crate) fn behind(s: &[u8], at: usize, a: Act) -> usize
     requires { ⌜ at + recordBytes ≤ length (now s) ⌝ }
     ensures { λ r. ⌜ r ≡ behindRule (now (s .entry)) at a ⌝ }
 {
+    let n = members(a);
+    if n == 0 {
+        return at + RECORD;
+    }
     let left = (s.len() - at) / RECORD - 1;
-    let n = fewer(members(a), left);
-    at + RECORD * (n + 1)
+    at + RECORD * (fewer(n, left) + 1)
 }
 
 // The operations of the `n` records from byte `at` on, three words each.

@@ -1,13 +1,14 @@
 -- The calls that are made at once: each rule under the tests that lead to it, as the code's functions meet it.
 use Prim.Native.Nat.{ℕ, _+_, _-_, _%_, _^_, _≤_, _<_}
-use mathlib.Core.Path.{_≡_, sym, ap, _∙_}
-use mathlib.Core.Bool.{Bool, true, false, not, _&&_, _||_}
-use mathlib.Core.List.{List}
+use mathlib.Core.Path.{_≡_, refl, sym, ap, _∙_}
+use mathlib.Core.Bool.{Bool, true, false, not, _&&_, _||_, and-true}
+use mathlib.Core.List.{List, [], _∷_}
 use native.Mathlib.Omega.{arith}
 use lib.Dec.{ltb, leb}
 use lib.ListN.{length}
 use borrow.Author.Tests.{lt-ltb, le-ltb, ltb-true, ltb-false, not-false}
-use Rattle.table.specs.Order.{Op}
+use Rattle.table.specs.Copy.{lawful}
+use Rattle.table.specs.Order.{Op, op}
 use Rattle.table.proofs.Booleans.{both}
 use Rattle.table.proofs.Split.{split}
 use Rattle.table.specs.declared.Answer.{Answer}
@@ -98,6 +99,26 @@ module _ (os : List Op) (c : Control) (s : Slot) {u f : Bool} {n : ℕ} {v : Ver
 
       pub append-refused : {a : Answer} {m : Moved} → v ≡ Refused a → m ≡ refused a c s e → lent m l r g ≡ appendOn os c s e l r g
       append-refused q k = ap (λ (m : Moved). lent m l r g) k ∙ append-by q
+
+-- the same of one operation, lawful by itself
+module _ (kind key amount : ℕ) (c : Control) (s : Slot) {u f : Bool} {v : Verdict} (x : u ≡ lawful kind key amount) (y : f ≡ crowds 1 c)
+    (h : v ≡ smallest (writerSigns 7 (not u) f c s))
+  where
+    abbrev one : List Op
+    one = op kind key amount ∷ []
+
+    lawful-one : u ≡ lawfulBatch one
+    lawful-one = x ∙ sym (and-true (lawful kind key amount))
+
+    pub one-fits : v ≡ Admitted → crowds 1 c ≡ false
+    one-fits q = append-fits one c s lawful-one refl y h q .1
+
+    module _ (e : ℕ) (l r g : List ℕ) where
+      pub one-admitted : {o : Lent Moved} → v ≡ Admitted → o ≡ appended (c .first) one c s e l r g → o ≡ appendOn one c s e l r g
+      one-admitted = append-admitted one c s lawful-one refl y h e l r g
+
+      pub one-refused : {a : Answer} {m : Moved} → v ≡ Refused a → m ≡ refused a c s e → lent m l r g ≡ appendOn one c s e l r g
+      one-refused = append-refused one c s lawful-one refl y h e l r g
 
 -- ---- publish, try, flush, take
 

@@ -95,33 +95,6 @@ fn value(v: u64, c: Control, s: Slot, e: u64) -> Moved
     }
 }
 
-// While `first` at once to the copy that the pointer does not name, and later into the log.
-fn appended(
-    ops: &[u64],
-    c: Control,
-    s: Slot,
-    e: u64,
-    left: &mut [u64],
-    right: &mut [u64],
-    log: &mut [u64],
-) -> Moved
-    requires { ⌜ (allLawful (opsIn (now ops)) ≡ true) × (crowdsRule (length (opsIn (now ops))) c ≡ false) ⌝ }
-    ensures { λ r. ⌜ lent r (now (left .exit)) (now (right .exit)) (now (log .exit)) ≡ appendedRule (c .first) (opsIn (now (ops .entry))) c s e (now (left .entry)) (now (right .entry)) (now (log .entry)) ⌝ }
-{
-    if c.first {
-        slices::operate(c.right, ops, left, right);
-        return value(0, c, stirred(s), e);
-    }
-    let n = c.length;
-    slices::enlog(log, n, ops);
-    value(
-        0,
-        phases::with_log(n + slices::count(ops), c.swapped, c),
-        s,
-        e,
-    )
-}
-
 // The log has no room for `n` operations, and is what they go to.
 fn crowds(n: usize, c: Control) -> bool
     ensures { λ r. ⌜ r ≡ crowdsRule n c ⌝ }
@@ -135,7 +108,80 @@ fn crowds(n: usize, c: Control) -> bool
     LOG_ROOM - c.length < n
 }
 
-// Operations in words, three each: all of them refused, or made.
+// While `first` at once to the copy that the pointer does not name, and later into the log.
+fn appended(
+    kind: u64,
+    key: u64,
+    amount: u64,
+    c: Control,
+    s: Slot,
+    e: u64,
+    left: &mut [u64],
+    right: &mut [u64],
+    log: &mut [u64],
+) -> Moved
+    requires { ⌜ crowdsRule 1 c ≡ false ⌝ }
+    ensures { λ r. ⌜ lent r (now (left .exit)) (now (right .exit)) (now (log .exit)) ≡ appendedRule (c .first) (op kind key amount ∷ []) c s e (now (left .entry)) (now (right .entry)) (now (log .entry)) ⌝ }
+{
+    if c.first {
+        slices::operate(c.right, kind, key, amount, left, right);
+        return value(0, c, stirred(s), e);
+    }
+    let n = c.length;
+    slices::enlog(log, n, kind, key, amount);
+    value(0, phases::with_log(n + 1, c.swapped, c), s, e)
+}
+
+// Append: an operation, refused or made. A batch of one, without a walk over words.
+pub fn append_on(
+    kind: u64,
+    key: u64,
+    amount: u64,
+    c: Control,
+    s: Slot,
+    e: u64,
+    left: &mut [u64],
+    right: &mut [u64],
+    log: &mut [u64],
+) -> Moved
+    ensures { λ r. ⌜ lent r (now (left .exit)) (now (right .exit)) (now (log .exit)) ≡ appendOn (op kind key amount ∷ []) c s e (now (left .entry)) (now (right .entry)) (now (log .entry)) ⌝ }
+{
+    let unlawful = !table::lawful(kind, key, amount);
+    let v = writer_verdict(7, unlawful, crowds(1, c), c, s);
+    match v {
+        Verdict::Admitted => appended(kind, key, amount, c, s, e, left, right, log),
+        Verdict::Refused(a) => steps::refused(a, c, s, e),
+    }
+}
+
+// The same, of many.
+fn extended(
+    ops: &[u64],
+    c: Control,
+    s: Slot,
+    e: u64,
+    left: &mut [u64],
+    right: &mut [u64],
+    log: &mut [u64],
+) -> Moved
+    requires { ⌜ (allLawful (opsIn (now ops)) ≡ true) × (crowdsRule (length (opsIn (now ops))) c ≡ false) ⌝ }
+    ensures { λ r. ⌜ lent r (now (left .exit)) (now (right .exit)) (now (log .exit)) ≡ appendedRule (c .first) (opsIn (now (ops .entry))) c s e (now (left .entry)) (now (right .entry)) (now (log .entry)) ⌝ }
+{
+    if c.first {
+        slices::operate_all(c.right, ops, left, right);
+        return value(0, c, stirred(s), e);
+    }
+    let n = c.length;
+    slices::enlog_all(log, n, ops);
+    value(
+        0,
+        phases::with_log(n + slices::count(ops), c.swapped, c),
+        s,
+        e,
+    )
+}
+
+// Extend: operations in words, three each, all of them refused or made.
 pub fn extend_on(
     ops: &[u64],
     c: Control,
@@ -151,27 +197,9 @@ pub fn extend_on(
     let full = crowds(slices::count(ops), c);
     let v = writer_verdict(7, unlawful, full, c, s);
     match v {
-        Verdict::Admitted => appended(ops, c, s, e, left, right, log),
+        Verdict::Admitted => extended(ops, c, s, e, left, right, log),
         Verdict::Refused(a) => steps::refused(a, c, s, e),
     }
-}
-
-// Append: one operation.
-pub fn append_on(
-    kind: u64,
-    key: u64,
-    amount: u64,
-    c: Control,
-    s: Slot,
-    e: u64,
-    left: &mut [u64],
-    right: &mut [u64],
-    log: &mut [u64],
-) -> Moved
-    ensures { λ r. ⌜ lent r (now (left .exit)) (now (right .exit)) (now (log .exit)) ≡ appendOn (op kind key amount ∷ []) c s e (now (left .entry)) (now (right .entry)) (now (log .entry)) ⌝ }
-{
-    let ops = [kind, key, amount];
-    extend_on(&ops, c, s, e, left, right, log)
 }
 
 // ---- publish, try, flush, take

@@ -7,7 +7,7 @@ ghost use lib.ListN.{length, getD, set};
 ghost use Rattle.table.specs.Copy.{zeros};
 ghost use Rattle.read.specs.Machine.{logRoom};
 ghost use Rattle.read.specs.Handles.{copyOf};
-ghost use Rattle.write.specs.Steps.{ofLeft, ofRight, logApplied, over, unlogged};
+ghost use Rattle.write.specs.Steps.{ofLeft, ofRight, operated, logApplied, over, unlogged};
 ghost use Rattle.write.specs.Call.{opsIn};
 ghost use Rattle.write.specs.Begins.{allLawful, lawfulBatch, logged, operatedAll, loggedAll};
 
@@ -101,7 +101,24 @@ fn apply_all(w: &mut [u64], ops: &[u64])
 
 // ---- on the copy that the pointer does not name; `side`: it names the right one
 
-pub(crate) fn operate(side: bool, ops: &[u64], left: &mut [u64], right: &mut [u64])
+pub(crate) fn operate(
+    side: bool,
+    kind: u64,
+    key: u64,
+    amount: u64,
+    left: &mut [u64],
+    right: &mut [u64],
+)
+    ensures { λ _. ⌜ (now (left .exit) ≡ ofLeft side (operated kind key amount) (now (left .entry))) × (now (right .exit) ≡ ofRight side (operated kind key amount) (now (right .entry))) ⌝ }
+{
+    if side {
+        table::apply(left, kind, key, amount);
+    } else {
+        table::apply(right, kind, key, amount);
+    }
+}
+
+pub(crate) fn operate_all(side: bool, ops: &[u64], left: &mut [u64], right: &mut [u64])
     requires { ⌜ allLawful (opsIn (now ops)) ≡ true ⌝ }
     ensures { λ _. ⌜ (now (left .exit) ≡ ofLeft side (operatedAll (opsIn (now (ops .entry)))) (now (left .entry))) × (now (right .exit) ≡ ofRight side (operatedAll (opsIn (now (ops .entry)))) (now (right .entry))) ⌝ }
 {
@@ -166,7 +183,7 @@ fn put(log: &mut [u64], i: usize, x: u64)
 }
 
 // An operation behind `n` others.
-fn enlog_one(log: &mut [u64], n: usize, kind: u64, key: u64, amount: u64)
+pub(crate) fn enlog(log: &mut [u64], n: usize, kind: u64, key: u64, amount: u64)
     requires { ⌜ n < logRoom ⌝ }
     ensures { λ _. ⌜ now (log .exit) ≡ logged n kind key amount (now (log .entry)) ⌝ }
 {
@@ -177,14 +194,14 @@ fn enlog_one(log: &mut [u64], n: usize, kind: u64, key: u64, amount: u64)
 }
 
 // Operations behind `n` others.
-pub(crate) fn enlog(log: &mut [u64], n: usize, ops: &[u64])
+pub(crate) fn enlog_all(log: &mut [u64], n: usize, ops: &[u64])
     requires { ⌜ (n + length (opsIn (now ops)) ≤ logRoom) × (allLawful (opsIn (now ops)) ≡ true) ⌝ }
     ensures { λ _. ⌜ now (log .exit) ≡ loggedAll n (opsIn (now (ops .entry))) (now (log .entry)) ⌝ }
 {
     let mut n = n;
     let mut i = 0;
     while i + 2 < ops.len() {
-        enlog_one(log, n, ops[i], ops[i + 1], ops[i + 2]);
+        enlog(log, n, ops[i], ops[i + 1], ops[i + 2]);
         n += 1;
         i += 3;
     }

@@ -7,8 +7,8 @@ use Rattle.write.proofs.Made.{append-fits, append-admitted, append-refu
 use Rattle.write.proofs.begins.extend_on.Statement.{statement}
 use Rattle.write.proofs.begins.extend_on.Tie as tie
 
-appended-requires : tie.Need-appended-requires
-appended-requires c κs =
+extended-requires : tie.Need-extended-requires
+extended-requires c κs =
     let v = c .before .before .before .before .before in
     let b = v .before .before .before in
     let a = b .before .before .before .before .before .args in
@@ -16,4 +16,4 @@ appended-requires c κs =
 
 pub extend-on-spec : {M : Type 1} → statement M
 extend-on-spec =
-    tie.close (all5 (all5 tie.spec (omega arith) appended-requires) (omega arith) (λ c. search append-admitted) (λ c. search append-refused))
+    tie.close (all5 (all5 tie.spec (omega arith) extended-requires) (omega arith) (λ c. search append-admitted) (λ c. search append-refused))
