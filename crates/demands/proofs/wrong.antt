@@ -3,6 +3,5 @@ pub mod Machines
 pub mod Histories
 pub mod Refusals
 pub mod Demands
-pub mod FullLog
 pub mod Follows
 pub mod Builder

@@ -1,12 +1,13 @@
 -- What each call answers is the first row of the table that applies.
-use Prim.Native.Nat.{ℕ, _≤_, _<_}
+use Prim.Native.Nat.{ℕ, _+_, _≤_, _<_}
 use mathlib.Core.Path.{_≡_, refl, sym, ap, _∙_}
 use mathlib.Core.Bool.{Bool, true, false, not, _&&_, _||_, and-false, or-false, and-self-left}
 use mathlib.Core.List.{List, [], _∷_, _++_}
+use lib.ListN.{length}
 use lib.Dec.{eqb, ltb, leb}
 use borrow.Author.Tests.{lt-ltb, le-ltb}
 use Rattle.table.specs.Seek.{seek}
-use Rattle.table.specs.Copy.{lawful}
+use Rattle.table.specs.Order.{Op}
 use Rattle.table.proofs.Seek.{seek-suc-here}
 use Rattle.table.proofs.Split.{split}
 use Rattle.table.proofs.Booleans.{neither, clash}
@@ -26,7 +27,7 @@ use Rattle.read.proofs.Phases.{underway-stays, gone-is, idle-is}
 use Rattle.write.specs.declared.Opening.{Opening}
 use Rattle.write.specs.Call.{Call, Create, On, Append, Open, Step}
 use Rattle.write.specs.declared.Opening.the-variants as opening
-use Rattle.write.specs.Begins.{writerSigns, stepSigns, columnOf}
+use Rattle.write.specs.Begins.{writerSigns, stepSigns, columnOf, lawfulBatch, crowds}
 use Rattle.write.proofs.Control.{Whole}
 use Rattle.demands.specs.Account.{Account, unswapped, inside}
 use Rattle.demands.specs.Table.{least, whatComesBack, wanted, busy, lockHeld, meetsReader}
@@ -224,18 +225,17 @@ module _ (a : Account) (c : Control) (h : SteersOf a c) (w : Whole c) where
         idle : (busy a || (isDue (a .readers 0 .due) || false)) ≡ false → a .gone ≡ false → c .phase ≡ Idle
         idle n g = idle-is (c .phase) (sym busy' ∙ neither (busy a) _ n .0) (sym gone' ∙ g)
 
-    pub wanted-append : (kind key amount : ℕ) →
-        wanted a (Append kind key amount)
-        ≡ answerNo (smallest (writerSigns 7 (not (lawful kind key amount)) (not (c .first) && leb logRoom (c .length)) c s)) 0
-    wanted-append kind key amount =
-        by-signs a (Append kind key amount) (writerSigns 7 (not (lawful kind key amount)) (not (c .first) && leb logRoom (c .length)) c s) none
-        (write-rows 7 (not (lawful kind key amount)) (not (unswapped (a .store)) && leb logRoom (a .store .inLog)) (not (c .first) && leb logRoom (c .length))
+    pub wanted-append : (os : List Op) →
+        wanted a (Append os) ≡ answerNo (smallest (writerSigns 7 (not (lawfulBatch os)) (crowds (length os) c) c s)) 0
+    wanted-append os =
+        by-signs a (Append os) (writerSigns 7 (not (lawfulBatch os)) (crowds (length os) c) c s) none
+        (write-rows 7 (not (lawfulBatch os)) (not (unswapped (a .store)) && ltb logRoom (a .store .inLog + length os)) (crowds (length os) c)
         (entry-append (c .phase)) full)
       where
-        full : c .phase ≡ Idle → (not (unswapped (a .store)) && leb logRoom (a .store .inLog)) ≡ (not (c .first) && leb logRoom (c .length))
+        full : c .phase ≡ Idle → (not (unswapped (a .store)) && ltb logRoom (a .store .inLog + length os)) ≡ crowds (length os) c
         full q =
             let x = stands-at a h q in
-            λ j. not (sym (h .first) j) && leb logRoom (sym (x .log .0) j)
+            λ j. not (sym (h .first) j) && ltb logRoom (sym (x .log .0) j + length os)
 
     pub wanted-open : (o : Opening) → wanted a (Open o) ≡ answerNo (smallest (writerSigns (columnOf o) false false c s)) 0
     unfolding entry

@@ -14,10 +14,9 @@ use Rattle.table.specs.declared.Answer.{Answer}
 use Rattle.table.specs.declared.Answer.the-variants as answer
 use Rattle.table.specs.Answers.{number}
 use Rattle.table.specs.Order.{Op}
-use Rattle.table.specs.Copy.{lawful}
 use Rattle.table.specs.Seek.{seek}
 use Rattle.table.proofs.Split.{by, below}
-use Rattle.table.proofs.Booleans.{neither, clash}
+use Rattle.table.proofs.Booleans.{both, neither, clash}
 use Rattle.table.proofs.Lists.{at-set}
 use Rattle.read.specs.declared.Phase.{Phase}
 use Rattle.read.specs.declared.Phase.the-variants.{Idle}
@@ -38,7 +37,7 @@ use Rattle.write.specs.declared.Opening.{Opening}
 use Rattle.write.specs.Call.{Call, Create, On, Append, Open, Step, Run}
 use Rattle.write.specs.declared.Opening.the-variants as opening
 use Rattle.write.specs.Steps.{at, polling, withLog}
-use Rattle.write.specs.Begins.{writerSigns, columnOf, logged, madeAtOnce, appendFirst, appendOn, begun, taking, opened, openOn}
+use Rattle.write.specs.Begins.{writerSigns, columnOf, batchRoom, allLawful, lawfulBatch, crowds, appendFirst, appendLater, appendOn, begun, taking, opened, openOn}
 use Rattle.write.specs.Runs.{withMove, snapAt, lift}
 use Rattle.write.specs.Machine.{callOn}
 use Rattle.write.specs.World.{World, worldOf, reply, answerOf, valueOf}
@@ -157,7 +156,7 @@ noted-refused (On i h) a q (suc n) lt le =
     let other : (eqb (handleNumber h) 4 && eqb (suc n) 15) ≡ false =
     ap (λ (b : Bool). eqb (handleNumber h) 4 && b) (ne-eqb (suc n) 15 (λ z. omega arith)) ∙ and-false (eqb (handleNumber h) 4) in
     ap (λ (b : Bool). ofReader i (λ r. elim b [ true ↦ missed r | false ↦ r ]) a) other ∙ self-noted i a
-noted-refused (Append kind key amount) a q (suc n) lt le = refl
+noted-refused (Append os) a q (suc n) lt le = refl
 noted-refused (Open o) a q (suc n) lt le = refl
 noted-refused Step a q (suc n) lt le = ap (λ (b : Bool). elim b [ true ↦ withPlan (a .trial) [] a | false ↦ a ]) (ne-eqb (suc n) 14 (λ z. omega arith))
 noted-refused Run a q (suc n) lt le = clash refl q
@@ -325,12 +324,9 @@ module _ {w : World} {a : Account} (tie : Tie w a) where
   resting q column bad full u =
       record { idle = q; quiet = record { idle = neither (eqb (entry (c .phase) column) 6) _ (u .timely) .1; alone = u .guards } }
 
-  module _ (kind key amount : ℕ) where
-    abbrev op : Op
-    op = record { kind = kind; key = key; amount = amount }
-
+  module _ (os : List Op) where
     abbrev ApRight : Lent Moved → Type 0
-    ApRight m = Right a (Append kind key amount) (lift 0 (w .state) m)
+    ApRight m = Right a (Append os) (lift 0 (w .state) m)
 
     abbrev firstState : State
     firstState =
@@ -346,55 +342,54 @@ module _ {w : World} {a : Account} (tie : Tie w a) where
 
     -- by whether a swap came before
     abbrev byFirst : Bool → Account
-    byFirst b = elim b [ true ↦ ofReader 0 (λ r. turned 2 (r .due) r) (ofStore (accepts 0 op) a) | false ↦ ofStore (accepts 1 op) a ]
+    byFirst b = elim b [ true ↦ ofReader 0 (λ r. turned 2 (r .due) r) (ofStore (accepts 0 os) a) | false ↦ ofStore (accepts (length os) os) a ]
 
-    module _ (z : wanted a (Append kind key amount) ≡ 0) (rest : Resting (tie .sound) (tie .inv)) where
+    module _ (z : wanted a (Append os) ≡ 0) (rest : Resting (tie .sound) (tie .inv)) where
       q : c .phase ≡ Idle
       q = rest .idle
 
-      early-right : c .first ≡ true → lawful kind key amount ≡ true → ApRight (appendFirst kind key amount c s0 e0 (w .left) (w .right) (w .log))
+      early-right : c .first ≡ true → allLawful os ≡ true → ApRight (appendFirst os c s0 e0 (w .left) (w .right) (w .log))
       early-right f law =
           let u : true ≡ unswapped (a .store) = sym f ∙ tie .steers .first in
           record {
             answer = sym z;
-            value = value-done a (Append kind key amount) 0 z refl;
+            value = value-done a (Append os) 0 z refl;
             steers = subst (λ (b : Bool). SteersOf (byFirst b) c) u (logged-steers (c .length) (a .store .inLog + 0) _ q (λ e. omega arith));
             reads = subst (λ (b : Bool). ReadsAll (byFirst b) firstState) u first-reads;
-            inv = subst (λ (b : Bool). InvOf (worldOf (lift 0 (w .state) (appendFirst kind key amount c s0 e0 (w .left) (w .right) (w .log)))) (byFirst b)) u
-                (loads-nothing (ofStore (accepts 0 op) a) 0 (turned 2 (a .readers 0 .due) (a .readers 0)) refl (first-keeps (tie .sound) (tie .inv) rest kind key amount f law));
+            inv = subst (λ (b : Bool). InvOf (worldOf (lift 0 (w .state) (appendFirst os c s0 e0 (w .left) (w .right) (w .log)))) (byFirst b)) u
+                (loads-nothing (ofStore (accepts 0 os) a) 0 (turned 2 (a .readers 0 .due) (a .readers 0)) refl (first-keeps (tie .sound) (tie .inv) rest os f law));
           }
 
-      later-right : c .first ≡ false → c .length < logRoom →
-          ApRight (lent (madeAtOnce (withLog (c .length + 1) (c .swapped) c) s0 e0) (w .left) (w .right) (logged (c .length) kind key amount (w .log)))
-      later-right f lt =
+      later-right : c .first ≡ false → c .length + length os ≤ logRoom → ApRight (appendLater os c s0 e0 (w .left) (w .right) (w .log))
+      later-right f room =
+          let d = withLog (c .length + length os) (c .swapped) c in
           let u : false ≡ unswapped (a .store) = sym f ∙ tie .steers .first in
           record {
             answer = sym z;
-            value = value-done a (Append kind key amount) 0 z refl;
-            steers = subst (λ (b : Bool). SteersOf (byFirst b) (withLog (c .length + 1) (c .swapped) c)) u
-                (logged-steers (c .length + 1) (a .store .inLog + 1) _ q (λ e. omega arith));
-            reads = subst (λ (b : Bool). ReadsAll (byFirst b) (kept-at (withLog (c .length + 1) (c .swapped) c))) u
-                (reads-kept (withLog (c .length + 1) (c .swapped) c));
-            inv = subst
-                (λ (b : Bool). InvOf (worldOf (lift 0 (w .state) (lent (madeAtOnce (withLog (c .length + 1) (c .swapped) c) s0 e0) (w .left) (w .right) (logged (c .length) kind key amount (w .log))))) (byFirst b))
-                u (later-keeps (tie .sound) (tie .inv) rest kind key amount f lt);
+            value = value-done a (Append os) 0 z refl;
+            steers = subst (λ (b : Bool). SteersOf (byFirst b) d) u
+                (logged-steers (c .length + length os) (a .store .inLog + length os) _ q (λ e. omega arith));
+            reads = subst (λ (b : Bool). ReadsAll (byFirst b) (kept-at d)) u (reads-kept d);
+            inv = subst (λ (b : Bool). InvOf (worldOf (lift 0 (w .state) (appendLater os c s0 e0 (w .left) (w .right) (w .log)))) (byFirst b)) u
+                (later-keeps (tie .sound) (tie .inv) rest os f room);
           }
 
-    pub append-right : Right a (Append kind key amount) (reply callOn (Append kind key amount) w)
+    pub append-right : Right a (Append os) (reply callOn (Append os) w)
     unfolding callOn appendOn
     append-right =
-        let full = not (c .first) && leb logRoom (c .length) in
-        let signs = writerSigns 7 (not (lawful kind key amount)) full c s0 in
-        let want = wanted-append a c (tie .steers) whole s0 e0 (tie .reads 0) kind key amount in
+        let bad = not (lawfulBatch os) in
+        let full = crowds (length os) c in
+        let signs = writerSigns 7 bad full c s0 in
+        let want = wanted-append a c (tie .steers) whole s0 e0 (tie .reads 0) os in
         judging ApRight (smallest signs)
         (λ v.
         let z = want ∙ ap (λ y. answerNo y 0) v in
-        let u = write-passed 7 (not (lawful kind key amount)) full c s0 v in
-        let rest = resting (append-idle (not (lawful kind key amount)) full c s0 v) 7 (not (lawful kind key amount)) full u in
-        by ApRight (c .first) (λ f. early-right z rest f (not-false _ (u .operation)))
-        (λ f. below ApRight (c .length) logRoom (λ b. later-right z rest f b)
-        (λ b. absurd (let m = roomy (c .length) (c .first) f (u .log) in omega arith))))
-        (λ x v. mild-right (Append kind key amount) refl x (refused-mild signs refl x v) (want ∙ ap (λ y. answerNo y 0) v) (kept-at c) (move-same 0 (w .state)))
+        let u = write-passed 7 bad full c s0 v in
+        let rest = resting (append-idle bad full c s0 v) 7 bad full u in
+        by ApRight (c .first)
+        (λ f. early-right z rest f (both (leb (length os) batchRoom) (allLawful os) (not-false (lawfulBatch os) (u .operation)) .1))
+        (λ f. later-right z rest f (roomy (c .length + length os) (c .first) f (u .log))))
+        (λ x v. mild-right (Append os) refl x (refused-mild signs refl x v) (want ∙ ap (λ y. answerNo y 0) v) (kept-at c) (move-same 0 (w .state)))
 
   -- ---- publish, try, flush, take
 

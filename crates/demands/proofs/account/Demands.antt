@@ -60,7 +60,7 @@ module _ {w : World} {a : Account} (h : Tie w a) where
       on : (k : Call) → isRun k ≡ false → Right a k (reply callOn k w)
       on Create q = create-right h
       on (On i x) q = handle-right h i x
-      on (Append kind key amount) q = append-right h kind key amount
+      on (Append os) q = append-right h os
       on (Open o) q = open-right h o
       on Step q = step-right h
       on Run q = clash refl q
@@ -105,7 +105,7 @@ pub all-tell : (k : Call) (t : Told) → Tie (t .world) (t .account) → Tie (te
 unfolding tell
 all-tell Create t h = all-call h Create refl
 all-tell (On i x) t h = all-call h (On i x) (on-other i x .no-run)
-all-tell (Append kind key amount) t h = all-call h (Append kind key amount) refl
+all-tell (Append os) t h = all-call h (Append os) refl
 all-tell (Open o) t h = all-call h (Open o) (open-other o .no-run)
 all-tell Step t h = all-call h Step refl
 all-tell Run t h = all-run h

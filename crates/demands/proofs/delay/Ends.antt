@@ -175,8 +175,8 @@ module _ (o : Opening) (ops : List Op) where
 
 module _ {w : World} {a : Account} (h : Tie w a) (u : busy a ≡ true) where
   -- no call of the writer but step and run is accepted
-  append-refused : (kind key amount : ℕ) → answerOf (reply callRule (Append kind key amount) w) ≢ 0
-  append-refused kind key amount z = clash u (writes-idle a (Append kind key amount) refl (sym (right h (Append kind key amount) refl .answer) ∙ z))
+  append-refused : (os : List Op) → answerOf (reply callRule (Append os) w) ≢ 0
+  append-refused os z = clash u (writes-idle a (Append os) refl (sym (right h (Append os) refl .answer) ∙ z))
 
   undone : (P : Account → Type 0) → P a → (f : Account → Account) (n : ℕ) → n ≢ 0 → P (ifDone n f a)
   undone P x f zero ne = absurd (ne refl)
@@ -201,7 +201,7 @@ module _ {w : World} {a : Account} (h : Tie w a) (u : busy a ≡ true) where
       done (suc n) = x
   other-changes P x f (On i y) s q =
       f i (spoke y (answerOf (reply callRule (On i y) w)) (valueOf (reply callRule (On i y) w)) (a .store .published))
-  other-changes P x f (Append kind key amount) s q = undone P x (appends (record { kind = kind; key = key; amount = amount })) _ (append-refused kind key amount)
+  other-changes P x f (Append os) s q = undone P x (appends os) _ (append-refused os)
   other-changes P x f (Open p) s q = undone P x (asked p (valueOf (reply callRule (Open p) w))) _ (open-refused p)
   other-changes P x f Step s q = clash refl s
   other-changes P x f Run s q = clash refl q
@@ -217,7 +217,7 @@ module _ {w : World} {a : Account} (h : Tie w a) (u : busy a ≡ true) where
   unfolding after
   goes Create = other-goes Create refl refl
   goes (On i y) = other-goes (On i y) (on-other i y .no-step) (on-other i y .no-run)
-  goes (Append kind key amount) = other-goes (Append kind key amount) refl refl
+  goes (Append os) = other-goes (Append os) refl refl
   goes (Open p) = other-goes (Open p) (open-other p .no-step) (open-other p .no-run)
   goes Step = step-goes h u
   goes Run =
@@ -230,7 +230,7 @@ module _ {w : World} {a : Account} (h : Tie w a) (u : busy a ≡ true) where
   unfolding after
   keeps-call o ops x Create ne = other-changes (Keeps o ops) x (λ i f. x) Create refl refl
   keeps-call o ops x (On i y) ne = x
-  keeps-call o ops x (Append kind key amount) ne = other-changes (Keeps o ops) x (λ i f. x) (Append kind key amount) refl refl
+  keeps-call o ops x (Append os) ne = other-changes (Keeps o ops) x (λ i f. x) (Append os) refl refl
   keeps-call o ops x (Open p) ne = other-changes (Keeps o ops) x (λ i f. x) (Open p) (open-other p .no-step) (open-other p .no-run)
   keeps-call o ops x Step ne = keeps-stopped o ops (answerOf (reply callRule Step w)) _ ne (made (answerOf (reply callRule Step w)))
     where

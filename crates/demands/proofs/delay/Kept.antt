@@ -151,11 +151,11 @@ noted-kept : (k : Call) (n v : ℕ) (a : Account) → Kept a → Kept (noted k n
 noted-kept Create zero v a h = kept-at h v _ (unowned (a .readers v .snapshot) (h .readers v .unread))
 noted-kept Create (suc n) v a h = h
 noted-kept (On i x) n v a h = kept-at h i _ (spoke-fine (a .readers i) (h .readers i) x n v (a .store .published))
-noted-kept (Append kind key amount) zero v a h =
+noted-kept (Append os) zero v a h =
     by Kept (unswapped (a .store))
     (λ u. kept-at (record { readers = h .readers; unlogged = λ n. omega (arith, h .unlogged n); unsnapped = h .unsnapped }) 0 _ (turned-fine (a .readers 0) (h .readers 0) 2 (a .readers 0 .due)))
     (λ u. record { readers = h .readers; unlogged = λ n. clash n u; unsnapped = h .unsnapped })
-noted-kept (Append kind key amount) (suc n) v a h = h
+noted-kept (Append os) (suc n) v a h = h
 noted-kept (Open o) zero v a h =
     by Kept (is 11 (Open o) && not (eqb v 1)) (λ _. h) (λ _. kept-plan h (planOf o (a .store)) (plan-first o (a .store)))
 noted-kept (Open o) (suc n) v a h = h

@@ -79,9 +79,9 @@ module _ (j : ℕ) where
     made-stays zero v a = ended-stays 0 a (advanced (a .plan) a) (step-stays (a .plan) a)
     made-stays (suc n) v a = ended-stays (suc n) a a (same (a .readers i))
 
-    append-stays : (kind key amount n v : ℕ) (a : Account) → Both a (noted (Append kind key amount) n v a)
-    append-stays kind key amount (suc n) v a = same (a .readers i)
-    append-stays kind key amount zero v a =
+    append-stays : (os : List Op) (n v : ℕ) (a : Account) → Both a (noted (Append os) n v a)
+    append-stays os (suc n) v a = same (a .readers i)
+    append-stays os zero v a =
         by (Both a) (unswapped (a .store)) (λ _. at-stays (a .readers) 0 (turned 2 (a .readers 0 .due) (a .readers 0)) i (λ _ o. (o, refl)))
         (λ _. same (a .readers i))
 
@@ -161,7 +161,7 @@ module _ {w : World} {a : Account} (h : Tie w a) (i j : ℕ) where
       at-stays j (a .readers) k _ i (λ e.
       spoke-stays j (a .readers k) (λ o. open-below (slotAt (w .state) k .guards) j (h .reads k .guards j ∙ o)) (a .store .published) x
       (λ q. ne (λ z. On (e z) (q z))) (a .taken) (answerOf (reply callRule (On k x) w)) (valueOf (reply callRule (On k x) w)) (worth-is (On k x) (on-other k x .no-run)))
-  call-stays (Append kind key amount) ne = append-stays j i kind key amount (answerOf (reply callRule (Append kind key amount) w)) (valueOf (reply callRule (Append kind key amount) w)) a
+  call-stays (Append os) ne = append-stays j i os (answerOf (reply callRule (Append os) w)) (valueOf (reply callRule (Append os) w)) a
   call-stays (Open o) ne = open-stays j i o (answerOf (reply callRule (Open o) w)) (valueOf (reply callRule (Open o) w)) a
   call-stays Step ne = made-stays j i (answerOf (reply callRule Step w)) (valueOf (reply callRule Step w)) a
   call-stays Run ne = ended-stays j i (answerOf (reply callRule Run w)) a _ (ran-stays j i (valueOf (reply callRule Run w)) a)

@@ -21,7 +21,7 @@ use Rattle.demands.proofs.refusal.Judged.{unsized-1, broken-2, otherwis
 step-still : (k : Call) → isStep k ≡ true → stillUpTo k ≡ 13
 step-still Create e = refl
 step-still (On i h) e = refl
-step-still (Append kind key amount) e = refl
+step-still (Append os) e = refl
 step-still (Open o) e = refl
 step-still Step e = refl
 step-still Run e = clash e refl

@@ -1,17 +1,13 @@
 -- What the calls on a handle, append and the beginnings do keeps the invariant.
-use Prim.Native.Nat.{ℕ, _+_, _%_, _^_, _<_}
+use Prim.Native.Nat.{ℕ, _+_, _%_, _^_, _≤_}
 use mathlib.Core.Path.{_≡_, refl, sym, ap, _∙_, subst, subst₂}
 use mathlib.Core.Bool.{Bool, true, false, not}
-use mathlib.Core.List.{List, [], _∷_, _++_}
+use mathlib.Core.List.{List, _++_}
 use native.Mathlib.Omega.{arith}
-use native.Mathlib.Numerals.{add-one}
 use lib.ListN.{length}
 use lib.Dec.{eqb}
 use borrow.Author.Tests.{eq-eqb, not-false}
-use Rattle.table.specs.Copy.{lawful}
 use Rattle.table.specs.Order.{Op, after}
-use Rattle.table.proofs.Cases.{apply-made}
-use Rattle.table.proofs.CopyFit.{fit-fits}
 use Rattle.table.proofs.Booleans.{neither, clash}
 use Rattle.read.specs.declared.Phase.{Phase}
 use Rattle.read.specs.declared.Phase.the-variants.{Idle}
@@ -23,20 +19,20 @@ use Rattle.read.specs.declared.Job.the-variants as job
 use Rattle.read.specs.Machine.{logRoom, underway, isGone}
 use Rattle.read.specs.Admission.{column, entry, notNow}
 use Rattle.read.specs.Handles.{withDue}
-use Rattle.read.specs.Calls.{lent, slotAt}
+use Rattle.read.specs.Calls.{slotAt}
 use Rattle.read.proofs.Phases.{gone-is}
-use Rattle.write.specs.Steps.{polling, at, withLog, operated}
-use Rattle.write.specs.Begins.{taking, logged, madeAtOnce, appendFirst, begun}
+use Rattle.write.specs.Steps.{polling, at, withLog}
+use Rattle.write.specs.Begins.{taking, allLawful, operatedAll, loggedAll, appendFirst, appendLater, begun}
 use Rattle.write.specs.Runs.{snapAt, lift}
 use Rattle.write.specs.World.{World, worldOf}
 use Rattle.write.proofs.Control.{some-slot}
 use Rattle.write.proofs.Cases.{withJob}
 use Rattle.demands.proofs.Passed.{OnPassed}
 use Rattle.demands.proofs.Sides.{readCopy, writeCopy}
-use Rattle.demands.proofs.shown.Invariant.{Seen, sight, Quiet, Stage, Inv, opsFrom, opsOf, reachAt, firstly, orAll}
+use Rattle.demands.proofs.shown.Invariant.{Seen, sight, Quiet, Stage, Inv, opsOf, reachAt, firstly, orAll}
 use Rattle.demands.proofs.shown.Slot.{within-same, twice-view, weaken}
-use Rattle.demands.proofs.shown.Unused.{clear-operated, clear-logged}
-use Rattle.demands.proofs.shown.Log.{length-ops, ops-logged}
+use Rattle.demands.proofs.shown.Unused.{clear-operatedAll, clear-loggedAll}
+use Rattle.demands.proofs.shown.Log.{length-ops, ops-loggedAll, all-made}
 use Rattle.demands.proofs.shown.Stages.{Begins, begins-polling, begins-beginning, begins-taking, stage-polling, stage-beginning, begin-stage, take-stage, log-stage, apply-stage}
 use Rattle.demands.proofs.shown.Lifts.{ctl, world, withControl, slotBack, snapBack, StageIn, snap-back, both-back, slot-keeps, control-keeps, write-keeps}
 use Rattle.demands.proofs.Sound.{SoundIn, sound-slot}
@@ -83,50 +79,44 @@ module _ {w : World} {t : Seen} (sound : SoundIn w) (inv : Inv w t) where
     not-underway : {C : Type 0} → underway (ctl w .phase) ≡ true → C
     not-underway u = clash u (ap underway (rest .idle))
 
-    module _ (kind key amount : ℕ) where
-      abbrev op : Op
-      op = record { kind = kind; key = key; amount = amount }
-
+    module _ (os : List Op) where
       abbrev grown : Seen
-      grown = sight (t .accepted ++ (op ∷ [])) (t .atBegin) (t .published) (t .loaded)
+      grown = sight (t .accepted ++ os) (t .atBegin) (t .published) (t .loaded)
 
       pub first-keeps :
-          ctl w .first ≡ true → lawful kind key amount ≡ true →
-          Inv (worldOf (lift 0 (w .state) (appendFirst kind key amount (ctl w) (slotAt (w .state) 0) (snapAt (w .state) 0) (w .left) (w .right) (w .log)))) grown
+          ctl w .first ≡ true → allLawful os ≡ true →
+          Inv (worldOf (lift 0 (w .state) (appendFirst os (ctl w) (slotAt (w .state) 0) (snapAt (w .state) 0) (w .left) (w .right) (w .log)))) grown
       first-keeps q law =
           let s = slotAt (w .state) 0 in
           let h = slot-keeps sound inv 0 some-slot (withDue ((s .epoch + 2) % 2 ^ 64) (s .due) s) (t .loaded) (λ k ne. refl) (λ _ u. not-underway u)
           (twice-view (inv .each 0) (rest .quiet)) in
           snap-back 0 _
-          (write-keeps (sound-slot 0 _ sound) h (operated kind key amount) (after (op ∷ []) (writeCopy w))
-          (ap (λ o. o .copy) (apply-made kind key amount (writeCopy w) (fit-fits (writeCopy w) (fit-write sound inv)) law))
-          (clear-operated kind key amount) (inv .unused .log) (ap (λ (f : Bool). orAll f (reachAt (ctl w .phase) .cleared)) q) (within-same refl)
+          (write-keeps (sound-slot 0 _ sound) h (operatedAll os) (after os (writeCopy w)) (all-made os (writeCopy w) law (fit-write sound inv))
+          (clear-operatedAll os) (inv .unused .log) (ap (λ (f : Bool). orAll f (reachAt (ctl w .phase) .cleared)) q) (within-same refl)
           (λ u. not-underway u) (λ u. not-underway u)
           (subst
-          (λ (p : Phase). Stage p (ctl w .job) (ctl w .second) (ctl w .swapped) (opsOf w) (readCopy w) (after (op ∷ []) (writeCopy w)) (t .accepted ++ (op ∷ [])) (t .published) (ctl w .first))
-          (sym (rest .idle)) (apply-stage op q (stage-idle (rest .idle))))
+          (λ (p : Phase). Stage p (ctl w .job) (ctl w .second) (ctl w .swapped) (opsOf w) (readCopy w) (after os (writeCopy w)) (t .accepted ++ os) (t .published) (ctl w .first))
+          (sym (rest .idle)) (apply-stage os q (stage-idle (rest .idle))))
           (inv .spent))
 
       pub later-keeps :
-          ctl w .first ≡ false → ctl w .length < logRoom →
-          Inv (worldOf (lift 0 (w .state) (lent (madeAtOnce (withLog (ctl w .length + 1) (ctl w .swapped) (ctl w)) (slotAt (w .state) 0) (snapAt (w .state) 0)) (w .left) (w .right) (logged (ctl w .length) kind key amount (w .log))))) grown
+          ctl w .first ≡ false → ctl w .length + length os ≤ logRoom →
+          Inv (worldOf (lift 0 (w .state) (appendLater os (ctl w) (slotAt (w .state) 0) (snapAt (w .state) 0) (w .left) (w .right) (w .log)))) grown
       later-keeps q lt =
           let n = ctl w .length in
-          let g = logged n kind key amount (w .log) in
-          let ops : opsFrom (n + 1) 0 g ≡ opsOf w ++ (op ∷ []) =
-          ap (λ (x : ℕ). opsFrom x 0 g) (add-one n) ∙ ops-logged n kind key amount (w .log) (omega arith) (sound .good .words .log) in
+          let g = loggedAll n os (w .log) in
           both-back 0
-          (world (withLog (n + 1) (ctl w .swapped) (ctl w)) (w .state .slots) (w .state .snapshots) (w .left) (w .right) g)
+          (world (withLog (n + length os) (ctl w .swapped) (ctl w)) (w .state .slots) (w .state .snapshots) (w .left) (w .right) g)
           (record {
             each = inv .each;
             own = λ u. not-underway u;
             read = inv .read;
             atBegin = λ u. not-underway u;
             stage = subst₂
-                (λ (p : Phase) (os : List Op). Stage p (ctl w .job) (ctl w .second) (ctl w .swapped) os (readCopy w) (writeCopy w) (t .accepted ++ (op ∷ [])) (t .published) (ctl w .first))
-                (sym (rest .idle)) (sym ops)
-                (log-stage op q (omega (arith, sound .good .whole .within, length-ops n 0 (w .log))) (stage-idle (rest .idle)));
-            unused = record { left = inv .unused .left; right = inv .unused .right; log = clear-logged n kind key amount (w .log) (inv .unused .log) };
+                (λ (p : Phase) (ls : List Op). Stage p (ctl w .job) (ctl w .second) (ctl w .swapped) ls (readCopy w) (writeCopy w) (t .accepted ++ os) (t .published) (ctl w .first))
+                (sym (rest .idle)) (sym (ops-loggedAll os n (w .log) lt (sound .good .words .log)))
+                (log-stage os q (omega (arith, sound .good .whole .within, length-ops n 0 (w .log))) (stage-idle (rest .idle)));
+            unused = record { left = inv .unused .left; right = inv .unused .right; log = clear-loggedAll os n (w .log) (inv .unused .log) };
             spent = λ z. clash z (ap isGone (rest .idle));
           })
 

@@ -1,20 +1,21 @@
--- The log's words as operations: what a store behind the last and a move to the front do to them; and an operation of a sound
+-- The log's words as operations: what a store behind the last and a move to the front do to them; and operations of a sound
 -- machine applied.
 use Prim.Native.Nat.{ℕ, zero, suc, _+_, _-_, _*_, _≤_, _<_}
 use mathlib.Core.Path.{_≡_, refl, sym, ap, _∙_}
 use mathlib.Core.Bool.{true}
-use mathlib.Core.List.{List, [], _∷_, _++_, append-nil}
+use mathlib.Core.List.{List, [], _∷_, _++_, append-nil, append-assoc}
 use native.Mathlib.Omega.{arith}
-use lib.ListN.{length, getD, drop}
+use lib.ListN.{length, getD, drop, length-set}
 use lib.Seq.{take-length, drop-length}
 use borrow.Author.Tests.{lt-ltb}
-use Rattle.table.specs.Copy.{Fit}
+use Rattle.table.specs.Copy.{lawful, Fit}
 use Rattle.table.specs.Order.{Op, after}
 use Rattle.table.proofs.Cases.{apply-made}
-use Rattle.table.proofs.CopyFit.{fit-fits}
+use Rattle.table.proofs.CopyFit.{fit-applied, fit-fits}
+use Rattle.table.proofs.Booleans.{both}
 use Rattle.read.specs.Machine.{logRoom, logWords, lawfulAt}
-use Rattle.write.specs.Steps.{logApplied, over, unlogged}
-use Rattle.write.specs.Begins.{logged}
+use Rattle.write.specs.Steps.{operated, logApplied, over, unlogged}
+use Rattle.write.specs.Begins.{allLawful, logged, operatedAll, loggedAll}
 use Rattle.write.proofs.Words.{moved-word, other-word, kind-word, key-word, amount-word}
 use Rattle.demands.proofs.shown.Invariant.{opAt, opsFrom}
 
@@ -61,7 +62,7 @@ ops-rest : (n : ℕ) (g : List ℕ) → 0 < n → drop 1 (opsFrom n 0 g) ≡ ops
 ops-rest zero g h = absurd (omega arith)
 ops-rest (suc n) g h = let e : n ≡ suc n - 1 = omega arith in ap (λ (x : ℕ). opsFrom x 1 g) e
 
--- ---- an operation behind n others
+-- ---- operations behind n others
 
 module _ (n kind key amount : ℕ) (g : List ℕ) (room : n < logRoom) (sized : length g ≡ logWords) where
   logged-op : opAt (logged n kind key amount g) n ≡ record { kind = kind; key = key; amount = amount }
@@ -72,7 +73,7 @@ module _ (n kind key amount : ℕ) (g : List ℕ) (room : n < logRoom) (sized : 
         amount = amount-word n kind key amount g room sized t;
       }
 
-  pub ops-logged : opsFrom (suc n) 0 (logged n kind key amount g) ≡ opsFrom n 0 g ++ (record { kind = kind; key = key; amount = amount } ∷ [])
+  ops-logged : opsFrom (suc n) 0 (logged n kind key amount g) ≡ opsFrom n 0 g ++ (record { kind = kind; key = key; amount = amount } ∷ [])
   ops-logged =
       let g′ = logged n kind key amount g in
       let z : 0 + n ≡ n = omega arith in
@@ -80,6 +81,19 @@ module _ (n kind key amount : ℕ) (g : List ℕ) (room : n < logRoom) (sized : 
       let b : opsFrom n 0 g′ ≡ opsFrom n 0 g =
       ops-same n 0 0 g′ g (λ x lt. other-word n kind key amount g room sized (3 * 0 + x) (omega arith)) in
       ops-snoc n 0 g′ ∙ (λ t. b t ++ (a t ∷ []))
+
+pub ops-loggedAll :
+    (os : List Op) (n : ℕ) (g : List ℕ) → n + length os ≤ logRoom → length g ≡ logWords →
+    opsFrom (n + length os) 0 (loggedAll n os g) ≡ opsFrom n 0 g ++ os
+ops-loggedAll [] n g room sized =
+    let e : n + 0 ≡ n = omega arith in
+    ap (λ (x : ℕ). opsFrom x 0 g) e ∙ sym (append-nil (opsFrom n 0 g))
+ops-loggedAll (o ∷ os) n g room sized =
+    let g′ = logged n (o .kind) (o .key) (o .amount) g in
+    let e : n + suc (length os) ≡ suc n + length os = omega arith in
+    ap (λ (x : ℕ). opsFrom x 0 (loggedAll (suc n) os g′)) e ∙ ops-loggedAll os (suc n) g′ (omega arith) (simp length-set sized)
+    ∙ ap (λ (x : List Op). x ++ os) (ops-logged n (o .kind) (o .key) (o .amount) g (omega arith) sized)
+    ∙ append-assoc (opsFrom n 0 g) (o ∷ []) os
 
 -- ---- the first of n taken off
 
@@ -90,12 +104,23 @@ ops-unlogged n g some room sized =
     (λ x lt. moved-word n g some room sized (3 * 0 + x) (3 * 1 + x) (omega arith) (omega arith))
     ∙ sym (ops-rest n g some)
 
--- ---- an operation applied, and the copying
+-- ---- operations applied, and the copying
+
+op-made : (o : Op) (w : List ℕ) → lawful (o .kind) (o .key) (o .amount) ≡ true → Fit w → operated (o .kind) (o .key) (o .amount) w ≡ after (o ∷ []) w
+op-made o w law fit = ap (λ x. x .copy) (apply-made (o .kind) (o .key) (o .amount) w (fit-fits w fit) law)
 
 -- an operation of the log of a sound machine
 pub op-applied :
     (g : List ℕ) (i : ℕ) (w : List ℕ) → i < logRoom → lawfulAt g i ≡ true → Fit w → logApplied g i w ≡ after (opAt g i ∷ []) w
-op-applied g i w h law fit = rw (lt-ltb i logRoom h, logApplied) (ap (λ o. o .copy) (apply-made _ _ _ w (fit-fits w fit) law))
+op-applied g i w h law fit = rw (lt-ltb i logRoom h, logApplied) (op-made (opAt g i) w law fit)
+
+-- lawful operations, one after the other
+pub all-made : (os : List Op) (w : List ℕ) → allLawful os ≡ true → Fit w → operatedAll os w ≡ after os w
+all-made [] w law fit = refl
+all-made (o ∷ os) w law fit =
+    let h = both (lawful (o .kind) (o .key) (o .amount)) (allLawful os) law in
+    ap (operatedAll os) (op-made o w (h .0) fit)
+    ∙ all-made os (after (o ∷ []) w) (h .1) (fit-applied (o .kind) (o .key) (o .amount) w fit)
 
 pub over-whole : (from to : List ℕ) → length from ≡ length to → over from to ≡ from
 over-whole from to e = rw (← e, take-length) (rw (e, drop-length) (append-nil from))

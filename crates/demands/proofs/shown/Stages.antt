@@ -278,32 +278,30 @@ module _ {j : Job} {b : Bool} {s : ℕ} {os : List Op} {r w : List ℕ} {acc pb 
       all : w ≡ after acc empty
       all = h .holds .2 ∙ sym (ap (λ (x : List Op). after x empty) (h .behind ∙ ap (λ (x : ℕ). pb ++ drop x os) (h .holds .1)) ∙ after-append pb os empty ∙ ap (after os) (sym q))
 
-  -- an operation is accepted
+  -- operations are accepted
   pub log-stage :
-      (o : Op) → f ≡ false → s ≤ length os → Stage Idle j b s os r w acc pb f →
-      Stage Idle j b s (os ++ (o ∷ [])) r w (acc ++ (o ∷ [])) pb f
-  log-stage o q within (early e h) = clash e q
-  log-stage o q within (late e h) = late e (record {
-    behind = rw (h .behind, drop-append-le s os (o ∷ []) within) (append-assoc pb (drop s os) (o ∷ []));
+      (ns : List Op) → f ≡ false → s ≤ length os → Stage Idle j b s os r w acc pb f → Stage Idle j b s (os ++ ns) r w (acc ++ ns) pb f
+  log-stage ns q within (early e h) = clash e q
+  log-stage ns q within (late e h) = late e (record {
+    behind = rw (h .behind, drop-append-le s os ns within) (append-assoc pb (drop s os) ns);
     holds = go b (h .holds);
     empties = tt;
   })
     where
-      go : (b : Bool) → Lacks b s os r w → Lacks b s (os ++ (o ∷ [])) r w
+      go : (b : Bool) → Lacks b s os r w → Lacks b s (os ++ ns) r w
       go true z = z
-      go false z = rw (take-append-le s os (o ∷ []) within) z
+      go false z = rw (take-append-le s os ns within) z
 
-  pub apply-stage :
-      (o : Op) → f ≡ true → Stage Idle j b s os r w acc pb f → Stage Idle j b s os r (after (o ∷ []) w) (acc ++ (o ∷ [])) pb f
-  apply-stage o q (early e h) = early e (
+  pub apply-stage : (ns : List Op) → f ≡ true → Stage Idle j b s os r w acc pb f → Stage Idle j b s os r (after ns w) (acc ++ ns) pb f
+  apply-stage ns q (early e h) = early e (
     refl,
     record {
       unsynced = h .1 .unsynced;
       unlogged = h .1 .unlogged;
-      holds = ap (after (o ∷ [])) (h .1 .holds) ∙ sym (after-append acc (o ∷ []) empty);
+      holds = ap (after ns) (h .1 .holds) ∙ sym (after-append acc ns empty);
     },
   )
-  apply-stage o q (late e h) = clash q e
+  apply-stage ns q (late e h) = clash q e
 
 -- a take begins
 pub take-stage :

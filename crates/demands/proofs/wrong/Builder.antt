@@ -1,17 +1,20 @@
--- The builder of wrong machines, given the rules' own step, is the rules: so it meets all that they meet.
+-- The builder of wrong machines, given the rules' own step, is the rules: so it meets all that they meet. And so is that of appends, given
+-- the rules' own test.
 use Prim.Native.Nat.{ℕ}
 use mathlib.Core.Path.{_≡_, refl, sym, subst}
 use mathlib.Core.List.{List}
+use Rattle.table.specs.Order.{Op}
 use Rattle.read.specs.declared.State.{State}
 use Rattle.write.specs.Call.{Call, Create, On, Append, Open, Step, Run}
 use Rattle.write.specs.Steps.{stepAt}
+use Rattle.write.specs.Begins.{lawfulBatch, appendOn}
 use Rattle.write.specs.Runs.{stepOn, runWhile, runOn}
 use Rattle.write.specs.Machine.{callOn, callRule}
 use Rattle.demands.specs.Demand1.{Demand1}
 use Rattle.demands.specs.Demands.{Demands}
 use Rattle.demands.specs.Follows.{Follows}
 use Rattle.demands.specs.KnownEnds.{KnownEnds}
-use Rattle.demands.proofs.wrong.Machines.{stepBy, withStep}
+use Rattle.demands.proofs.wrong.Machines.{stepBy, withStep, testing}
 use Rattle.demands.proofs.refusal.Refused.{demand1}
 use Rattle.demands.proofs.account.Demands.{demands}
 use Rattle.demands.proofs.delay.Ends.{follows}
@@ -23,7 +26,7 @@ pub builder : (k : Call) (st : State) (l r g : List ℕ) → withStep stepAt k s
 unfolding withStep callRule callOn stepBy stepOn runOn runWhile
 builder Create st l r g = refl
 builder (On i h) st l r g = refl
-builder (Append kind key amount) st l r g = refl
+builder (Append os) st l r g = refl
 builder (Open o) st l r g = refl
 builder Step st l r g = refl
 builder Run st l r g = refl
@@ -42,3 +45,9 @@ builder-follows = subst Follows same-machine follows
 
 pub builder-ends : KnownEnds (withStep stepAt)
 builder-ends = subst KnownEnds same-machine known-ends
+
+-- ---- an append
+
+pub tester : (os : List Op) (st : State) (l r g : List ℕ) → testing lawfulBatch (Append os) st l r g ≡ callRule (Append os) st l r g
+unfolding callRule callOn appendOn
+tester os st l r g = refl

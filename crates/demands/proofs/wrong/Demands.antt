@@ -4,19 +4,20 @@ use mathlib.Core.Path.{refl, sym}
 use mathlib.Core.Bool.{true≢false}
 use mathlib.Core.List.{List, [], _∷_, _++_}
 use native.Mathlib.Omega.{arith}
-use lib.ListN.{length, getD}
+use lib.ListN.{length, getD, replicate}
 use lib.Dec.{lit≤}
 use Rattle.table.specs.Copy.{words}
+use Rattle.table.specs.Order.{op}
 use Rattle.table.proofs.Computes.{apart}
 use Rattle.read.specs.declared.Handle.the-variants.{Drop, Enter, Release, LookUp}
 use Rattle.read.specs.Machine.{slotCount, place}
 use Rattle.write.specs.declared.Opening.the-variants.{Publish, Try, Flush, Take}
-use Rattle.write.specs.Call.{Call, Create, On, Append, Open, Step, Run}
+use Rattle.write.specs.Call.{Call, Create, On, Append, appendOne, Open, Step, Run}
 use Rattle.write.specs.Runs.{snapAt}
 use Rattle.demands.specs.Demands.{Demands}
-use Rattle.demands.specs.KnownEnds.{publish, enters}
-use Rattle.demands.proofs.wrong.Machines.{passesReaders, holdsAll, heldByEven, comparesGreater, heldByAnyone, skipsPolls, startsOver, tryWaits, forgetsSlot, snapsFree, skipsSlot, nullsEarly, oldSnapshots, ignoresSteps, leavesCopying, copyTrails, leavesIndex, drainLeaves, spills, idleTry, leavesOther, zeroesBoth, handsOther, leavesLog, inventsValue, runsOnce, runsFree, runClears, runsPast, runDeclines, runSlips, refusesAll, doesNothing, twoSlots, createsLocked, clearsAtCreate, clearsAtDrop, entersSnapped, closesThird, keepsGuard, roundsSoon, showsEmpty, appendsToRead, oddClear, dropTrails, publishTries, swapsAtBegin, flushTries, flushesFirst, flushForgets, takesUnpublished}
-use Rattle.demands.proofs.wrong.Histories.{tells, differ, steps, again, entered, snapped, meeting, replaced, meetingNew, reading}
+use Rattle.demands.specs.KnownEnds.{publish, adds, enters}
+use Rattle.demands.proofs.wrong.Machines.{passesReaders, holdsAll, heldByEven, comparesGreater, heldByAnyone, skipsPolls, startsOver, tryWaits, forgetsSlot, snapsFree, skipsSlot, nullsEarly, oldSnapshots, ignoresSteps, leavesCopying, copyTrails, leavesIndex, drainLeaves, spills, idleTry, leavesOther, zeroesBoth, handsOther, leavesLog, inventsValue, runsOnce, runsFree, runClears, runsPast, runDeclines, runSlips, refusesAll, doesNothing, twoSlots, createsLocked, clearsAtCreate, clearsAtDrop, entersSnapped, closesThird, keepsGuard, roundsSoon, showsEmpty, appendsToRead, oddClear, dropTrails, fullEarly, backwards, takesSome, takesMore, refusesEmpty, publishTries, swapsAtBegin, flushTries, flushesFirst, flushForgets, takesUnpublished}
+use Rattle.demands.proofs.wrong.Histories.{tells, differ, steps, again, entered, snapped, meeting, replaced, meetingNew, crowded, reading}
 
 -- ---- answers
 
@@ -61,7 +62,7 @@ publishTries-wrong h = differ refl (h .answers (meeting Publish) Step refl)
 
 pub flushTries-wrong : Demands flushTries → ⊥
 unfolding tells
-flushTries-wrong h = differ refl (h .answers (snapped ++ (Append 1 7 3 ∷ Open Flush ∷ Step ∷ [])) Step refl)
+flushTries-wrong h = differ refl (h .answers (snapped ++ (appendOne 1 7 3 ∷ Open Flush ∷ Step ∷ [])) Step refl)
 
 -- and held again
 pub startsOver-wrong : Demands startsOver → ⊥
@@ -98,7 +99,7 @@ heldByEven-wrong h = differ refl (h .answers again Step refl)
 
 pub oddClear-wrong : Demands oddClear → ⊥
 unfolding tells
-oddClear-wrong h = differ refl (h .answers (Append 3 0 0 ∷ again) Step refl)
+oddClear-wrong h = differ refl (h .answers (appendOne 3 0 0 ∷ again) Step refl)
 
 pub heldByAnyone-wrong : Demands heldByAnyone → ⊥
 unfolding tells
@@ -120,7 +121,27 @@ entersSnapped-wrong h = differ refl (h .answers (Create ∷ On 1 Enter ∷ Open 
 -- the step behind the drain is made
 pub leavesIndex-wrong : Demands leavesIndex → ⊥
 unfolding tells
-leavesIndex-wrong h = differ refl (h .answers (publish ++ (Append 1 7 3 ∷ publish ++ (Open Publish ∷ steps (1 + slotCount)))) Step refl)
+leavesIndex-wrong h = differ refl (h .answers (publish ++ (appendOne 1 7 3 ∷ publish ++ (Open Publish ∷ steps (1 + slotCount)))) Step refl)
+
+-- a batch that the log can hold is taken
+pub fullEarly-wrong : Demands fullEarly → ⊥
+unfolding tells
+fullEarly-wrong h = differ refl (h .answers (publish ++ replicate 3 (Append (adds 64))) (Append (adds 64)) refl)
+
+-- and one that it cannot hold is refused
+pub takesSome-wrong : Demands takesSome → ⊥
+unfolding tells
+takesSome-wrong h = differ refl (h .answers crowded (Append (adds 60)) refl)
+
+-- so is one of more than 64 operations
+pub takesMore-wrong : Demands takesMore → ⊥
+unfolding tells
+takesMore-wrong h = differ refl (h .answers [] (Append (adds 65)) refl)
+
+-- an empty one is taken
+pub refusesEmpty-wrong : Demands refusesEmpty → ⊥
+unfolding tells
+refusesEmpty-wrong h = differ refl (h .answers [] (Append []) refl)
 
 -- ---- values
 
@@ -136,11 +157,11 @@ showsEmpty-wrong h = differ refl (h .values reading (On 1 (LookUp 0 7)) refl)
 
 pub idleTry-wrong : Demands idleTry → ⊥
 unfolding tells
-idleTry-wrong h = differ refl (h .values (Create ∷ Append 1 7 3 ∷ Open Try ∷ Run ∷ enters 1) (On 1 (LookUp 0 7)) refl)
+idleTry-wrong h = differ refl (h .values (Create ∷ appendOne 1 7 3 ∷ Open Try ∷ Run ∷ enters 1) (On 1 (LookUp 0 7)) refl)
 
 pub leavesCopying-wrong : Demands leavesCopying → ⊥
 unfolding tells
-leavesCopying-wrong h = differ refl (h .values (Create ∷ Append 1 7 3 ∷ publish ++ (publish ++ enters 1)) (On 1 (LookUp 0 7)) refl)
+leavesCopying-wrong h = differ refl (h .values (Create ∷ appendOne 1 7 3 ∷ publish ++ (publish ++ enters 1)) (On 1 (LookUp 0 7)) refl)
 
 -- of the last step
 pub ignoresSteps-wrong : Demands ignoresSteps → ⊥
@@ -166,7 +187,7 @@ runsFree-wrong h = let z = h .runs (Open Publish ∷ []) .ended refl .0 in omega
 -- the world is that after the steps
 pub runClears-wrong : Demands runClears → ⊥
 unfolding tells
-runClears-wrong h = apart (λ w. snapAt (w .state) 0) refl (h .runs (Append 1 7 3 ∷ Open Publish ∷ []) .ended refl .1)
+runClears-wrong h = apart (λ w. snapAt (w .state) 0) refl (h .runs (appendOne 1 7 3 ∷ Open Publish ∷ []) .ended refl .1)
 
 -- and no call is under way
 pub runsOnce-wrong : Demands runsOnce → ⊥
@@ -183,7 +204,7 @@ takesUnpublished-wrong h = true≢false (h .runs (Open Take ∷ []) .ended refl 
 
 pub nullsEarly-wrong : Demands nullsEarly → ⊥
 unfolding tells
-nullsEarly-wrong h = true≢false (h .runs (publish ++ (Append 1 7 1 ∷ Open Take ∷ [])) .ended refl .2)
+nullsEarly-wrong h = true≢false (h .runs (publish ++ (appendOne 1 7 1 ∷ Open Take ∷ [])) .ended refl .2)
 
 -- halted: the step behind is answered alike
 pub runDeclines-wrong : Demands runDeclines → ⊥
@@ -206,12 +227,17 @@ runsPast-wrong h = true≢false (sym (h .runs (Open Publish ∷ []) .halted (λ 
 -- between a publish's beginning and its swap
 pub swapsAtBegin-wrong : Demands swapsAtBegin → ⊥
 unfolding tells
-swapsAtBegin-wrong h = apart (λ p. getD p 3 0) refl (h .shows (Create ∷ Append 1 7 3 ∷ Open Publish ∷ enters 1) 1 0)
+swapsAtBegin-wrong h = apart (λ p. getD p 3 0) refl (h .shows (Create ∷ appendOne 1 7 3 ∷ Open Publish ∷ enters 1) 1 0)
 
 -- before any publish
 pub appendsToRead-wrong : Demands appendsToRead → ⊥
 unfolding tells
-appendsToRead-wrong h = apart (λ p. getD p 3 0) refl (h .shows (entered ++ (Append 1 7 3 ∷ [])) 1 0)
+appendsToRead-wrong h = apart (λ p. getD p 3 0) refl (h .shows (entered ++ (appendOne 1 7 3 ∷ [])) 1 0)
+
+-- what an operation did is undone by the one behind it
+pub backwards-wrong : Demands backwards → ⊥
+unfolding tells
+backwards-wrong h = apart (λ p. getD p 3 0) refl (h .shows (Create ∷ Append (op 1 7 3 ∷ op 2 7 0 ∷ []) ∷ publish ++ enters 1) 1 0)
 
 -- a word that no look up finds wrong
 pub spills-wrong : Demands spills → ⊥
@@ -226,7 +252,7 @@ keepsGuard-wrong h = apart length refl (h .shows (entered ++ (On 1 (Release 0) �
 -- ---- hands-over
 
 abbrev taken : List Call
-taken = Append 1 7 3 ∷ Open Take ∷ Run ∷ []
+taken = appendOne 1 7 3 ∷ Open Take ∷ Run ∷ []
 
 -- all
 pub zeroesBoth-wrong : Demands zeroesBoth → ⊥
@@ -262,9 +288,9 @@ copyTrails-wrong h = differ refl (h .unused (publish ++ publish) .left (words - 
 -- right
 pub dropTrails-wrong : Demands dropTrails → ⊥
 unfolding tells
-dropTrails-wrong h = differ refl (h .unused (Append 1 7 3 ∷ Append 2 7 0 ∷ []) .right 2 (lit≤ tt))
+dropTrails-wrong h = differ refl (h .unused (appendOne 1 7 3 ∷ appendOne 2 7 0 ∷ []) .right 2 (lit≤ tt))
 
 -- log
 pub drainLeaves-wrong : Demands drainLeaves → ⊥
 unfolding tells
-drainLeaves-wrong h = differ refl (h .unused (publish ++ (Append 1 7 3 ∷ publish ++ publish)) .log refl 0 (lit≤ tt))
+drainLeaves-wrong h = differ refl (h .unused (publish ++ (appendOne 1 7 3 ∷ publish ++ publish)) .log refl 0 (lit≤ tt))

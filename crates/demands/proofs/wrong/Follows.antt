@@ -11,11 +11,11 @@ use Rattle.table.proofs.Computes.{apart}
 use Rattle.read.specs.declared.Handle.the-variants.{Drop, Enter, Release}
 use Rattle.read.specs.Machine.{slotCount}
 use Rattle.write.specs.declared.Opening.the-variants.{Publish, Take}
-use Rattle.write.specs.Call.{Call, Create, On, Append, Open, Step, Run}
+use Rattle.write.specs.Call.{Call, Create, On, Append, appendOne, Open, Step, Run}
 use Rattle.write.specs.Numbers.{callNumber}
 use Rattle.demands.specs.Follows.{Follows}
-use Rattle.demands.specs.KnownEnds.{publish, enters, p5, cases, KnownEnds}
-use Rattle.demands.proofs.wrong.Machines.{inventsValue, publishTries, takeDeclines, snapsEven, finishTurns, createsOne, dropZeroes, dropKeeps, dropsOpen, entersZero, goesToSeven, publishesInside, publishesGone, acceptsBusy, neverRounds}
+use Rattle.demands.specs.KnownEnds.{publish, adds, enters, p5, cases, KnownEnds}
+use Rattle.demands.proofs.wrong.Machines.{inventsValue, publishTries, takeDeclines, snapsEven, finishTurns, createsOne, dropZeroes, dropKeeps, dropsOpen, entersZero, goesToSeven, stirsEach, countsNone, publishesInside, publishesGone, acceptsBusy, neverRounds}
 use Rattle.demands.proofs.KnownEnds.{known-end}
 use Rattle.demands.proofs.wrong.Histories.{tells, differ, entered, snapped, meeting}
 
@@ -40,7 +40,7 @@ createsOne-wrong h = true≢false (sym (h .stays entered Create 1 0 (λ e. apart
 pub entersZero-wrong : Follows entersZero → ⊥
 unfolding tells
 entersZero-wrong h =
-    apart length refl (h .stays (entered ++ (Append 1 7 3 ∷ publish)) (On 1 Enter) 1 0 (λ e. apart callNumber refl e) refl .1)
+    apart length refl (h .stays (entered ++ (appendOne 1 7 3 ∷ publish)) (On 1 Enter) 1 0 (λ e. apart callNumber refl e) refl .1)
 
 -- ---- named
 
@@ -96,7 +96,7 @@ acceptsBusy-wrong-rest h = apart length refl (h .ends [] Publish refl refl (Step
 pub acceptsBusy-wrong-published : Follows acceptsBusy → ⊥
 unfolding tells
 acceptsBusy-wrong-published h =
-    apart length refl (h .ends [] Publish refl refl (Append 1 7 3 ∷ Open Publish ∷ Run ∷ []) .published refl refl)
+    apart length refl (h .ends [] Publish refl refl (appendOne 1 7 3 ∷ Open Publish ∷ Run ∷ []) .published refl refl)
 
 -- gone
 pub takeDeclines-wrong : Follows takeDeclines → ⊥
@@ -120,10 +120,18 @@ pub dropZeroes-wrong : Follows dropZeroes → ⊥
 unfolding tells
 dropZeroes-wrong h = differ refl (h .epochs (entered ++ (On 1 (Release 0) ∷ On 1 Drop ∷ [])) 1 (lit≤ tt) .1)
 
+pub stirsEach-wrong : Follows stirsEach → ⊥
+unfolding tells
+stirsEach-wrong h = differ refl (h .epochs (Append (adds 2) ∷ []) 0 (lit≤ tt) .1)
+
+pub countsNone-wrong : Follows countsNone → ⊥
+unfolding tells
+countsNone-wrong h = differ refl (h .epochs (Append [] ∷ []) 0 (lit≤ tt) .1)
+
 -- its snapshot
 pub snapsEven-wrong : Follows snapsEven → ⊥
 unfolding tells
-snapsEven-wrong h = differ refl (h .epochs (Append 1 7 3 ∷ publish) 0 (lit≤ tt) .2)
+snapsEven-wrong h = differ refl (h .epochs (appendOne 1 7 3 ∷ publish) 0 (lit≤ tt) .2)
 
 -- ---- side
 

@@ -5,17 +5,19 @@ use mathlib.Core.List.{List, [], _∷_}
 use native.Mathlib.Omega.{arith}
 use lib.ListN.{getD, set}
 use lib.Dec.{lit≤}
+use Rattle.table.specs.Order.{op}
 use Rattle.table.proofs.Computes.{apart}
 use Rattle.read.specs.declared.State.{State}
 use Rattle.read.specs.Machine.{fresh, place}
 use Rattle.write.specs.declared.Opening.the-variants.{Publish}
-use Rattle.write.specs.Call.{Create, Append, Step}
+use Rattle.write.specs.Call.{Create, Append, appendOne, Step}
 use Rattle.write.specs.Steps.{withLog}
 use Rattle.write.specs.World.{World, freshWorld}
 use Rattle.demands.specs.Demand1.{Lengths, Sized, Fit, Demand1, Starts}
 use Rattle.demands.specs.Demands.{told}
-use Rattle.demands.proofs.wrong.Machines.{withControl, heldMovesOn, refusalWrites, refusalCounts, callsShort, callsBroken, anyLength, anyState, startRefuses, startsAnyLength, startLeaves, startZeroes, startCounts}
-use Rattle.demands.proofs.wrong.Histories.{tells, differ, meeting}
+use Rattle.demands.specs.KnownEnds.{adds}
+use Rattle.demands.proofs.wrong.Machines.{withControl, heldMovesOn, stopsAtBad, takesWhatFits, refusalWrites, refusalCounts, callsShort, callsBroken, anyLength, anyState, startRefuses, startsAnyLength, startLeaves, startZeroes, startCounts}
+use Rattle.demands.proofs.wrong.Histories.{tells, differ, meeting, crowded}
 
 -- ---- worlds
 
@@ -63,16 +65,25 @@ anyState-wrong h = differ refl (h .broken Create brokenWorld fresh-sized (λ f. 
 -- otherwise
 pub callsShort-wrong : Demand1 callsShort → ⊥
 unfolding tells
-callsShort-wrong h = h .otherwise (Append 1 7 0) freshWorld fresh-sized fresh-fit .0 refl
+callsShort-wrong h = h .otherwise (appendOne 1 7 0) freshWorld fresh-sized fresh-fit .0 refl
 
 pub callsBroken-wrong : Demand1 callsBroken → ⊥
 unfolding tells
-callsBroken-wrong h = h .otherwise (Append 1 7 0) freshWorld fresh-sized fresh-fit .1 refl
+callsBroken-wrong h = h .otherwise (appendOne 1 7 0) freshWorld fresh-sized fresh-fit .1 refl
 
 -- unchanged
 pub refusalWrites-wrong : Demand1 refusalWrites → ⊥
 unfolding tells
-refusalWrites-wrong h = apart (λ w. getD (w .left) 2 0) refl (h .unchanged (Append 1 7 0) freshWorld refl)
+refusalWrites-wrong h = apart (λ w. getD (w .left) 2 0) refl (h .unchanged (appendOne 1 7 0) freshWorld refl)
+
+pub stopsAtBad-wrong : Demand1 stopsAtBad → ⊥
+unfolding tells
+stopsAtBad-wrong h = apart (λ w. getD (w .right) 3 0) refl (h .unchanged (Append (op 1 7 3 ∷ op 1 8 0 ∷ [])) freshWorld refl)
+
+pub takesWhatFits-wrong : Demand1 takesWhatFits → ⊥
+unfolding tells
+takesWhatFits-wrong h =
+    apart (λ w. w .state .control .length) refl (h .unchanged (Append (adds 60)) (told takesWhatFits crowded .world) refl)
 
 -- of a single step that answers 13 too
 pub heldMovesOn-wrong : Demand1 heldMovesOn → ⊥
@@ -83,7 +94,7 @@ heldMovesOn-wrong h =
 -- valueless
 pub refusalCounts-wrong : Demand1 refusalCounts → ⊥
 unfolding tells
-refusalCounts-wrong h = differ refl (h .valueless (Append 1 7 0) freshWorld refl)
+refusalCounts-wrong h = differ refl (h .valueless (appendOne 1 7 0) freshWorld refl)
 
 -- ---- starts
 
