@@ -1,0 +1,3 @@
+-- A batch beside its operations, appended one by one.
+pub mod Appends
+pub mod Twins
