@@ -1,3 +1,4 @@
 -- A batch beside its operations, appended one by one.
 pub mod Appends
-pub mod Twins
+pub mod Aside
+pub mod Ever

@@ -35,7 +35,8 @@ pub record AsAppends (m : Machine) (os : List Op) (w : World) : Type 0 where
   pub made : played m (ones os) w .replies ≡ replicate (2 * length os) 0
   -- where operations are logged, they leave what the batch leaves
   pub logged : w .state .control .first ≡ false → played m (ones os) w .world ≡ next m (Append os) w
-  -- and where they are applied at once too, but for slot 0's epoch: that is 2 further after the batch, and 2 for each after them
+  -- where they are applied at once too, but for slot 0's epoch: a batch moves it on by 2, and they by 2 each. With what the other moved it on
+  -- added, both are the same
   pub applied : w .state .control .first ≡ true → further 2 (played m (ones os) w .world) ≡ further (2 * length os) (next m (Append os) w)
 
 -- from two worlds on, whatever calls are made
@@ -44,7 +45,7 @@ pub record AlikeFrom (m : Machine) (x y : World) : Type 0 where
   pub replies : (js : List Call) → played m js x .replies ≡ played m js y .replies
   -- every guard shows the same
   pub views : (js : List Call) (i j : ℕ) → shown i j (played m js x .world) ≡ shown i j (played m js y .world)
-  -- and all is the same but slot 0's epoch and its snapshot
+  -- and nothing else differs but slot 0's epoch and its snapshot
   pub rest : (js : List Call) → aside (played m js x .world) ≡ aside (played m js y .world)
 
 pub record Batches (m : Machine) : Type 0 where

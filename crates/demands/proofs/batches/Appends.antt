@@ -115,7 +115,7 @@ module _ (o : Op) (os : List Op) (w : World) (h : Admits (o ∷ os) w) where
       let (x, y) = both (lawful (o .kind) (o .key) (o .amount)) (allLawful os) l in
       (le-leb (length os) batchRoom (omega (arith, leb-true (suc (length os)) batchRoom n)), x, y)
 
-  -- some of them, n being logged before, with slot 0 at rest as it is
+  -- some of them, n being logged before, with as much due and open in slot 0
   admits-some : (ps : List Op) → lawfulBatch ps ≡ true → (n : ℕ) → n + length ps ≤ c .length + suc (length os) →
       (t : Slot) → (t .due ≡ s .due) × (t .guards ≡ s .guards) → smallest (signsOf ps (withLog n (c .swapped) c) t) ≡ Admitted
   admits-some ps l n le t e =
@@ -195,6 +195,7 @@ module _ (w : World) where
 
 -- ---- one after the other
 
+-- what they leave, beside what the batch leaves
 abbrev Leaves : Bool → List Op → World → World → Type 0
 Leaves true os w x = further 2 x ≡ further (2 * length os) (leaves true os w)
 Leaves false os w x = x ≡ leaves false os w
