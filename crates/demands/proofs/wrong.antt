@@ -4,4 +4,5 @@ pub mod Histories
 pub mod Refusals
 pub mod Demands
 pub mod Follows
+pub mod Batches
 pub mod Builder

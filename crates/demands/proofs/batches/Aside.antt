@@ -1,0 +1,162 @@
+-- No rule looks at slot 0's epoch and its snapshot but a poll of that slot: where it is not held, a call is answered as if they were put
+-- aside, and leaves the same but for them.
+use Prim.Native.Nat.{ℕ, zero, suc}
+use mathlib.Core.Path.{_≡_, refl, ap, _∙_}
+use mathlib.Core.Bool.{Bool, true, false, not, and-false}
+use mathlib.Core.List.{List, _∷_}
+use lib.ListN.{length, getD}
+use lib.Dec.{ltb}
+use Rattle.table.specs.Seek.{seek}
+use Rattle.table.specs.Order.{Op}
+use Rattle.table.specs.declared.Answer.{Answer}
+use Rattle.table.proofs.Split.{by}
+use Rattle.read.specs.declared.Due.{Due}
+use Rattle.read.specs.declared.Due.the-variants.{Nothing, Load, Restore}
+use Rattle.read.specs.declared.Slot.{Slot}
+use Rattle.read.specs.declared.Handle.{Handle}
+use Rattle.read.specs.declared.Handle.the-variants.{Drop, Enter, GoOn, Release, LookUp, WasDropped}
+use Rattle.read.specs.declared.Phase.{Phase}
+use Rattle.read.specs.declared.Phase.the-variants.{Idle, Begin, Poll, Copy, Drain, Keep, Swap, Snap, Null, Lock, LastSnap, LastPoll, Finish, Gone}
+use Rattle.read.specs.declared.Control.{Control}
+use Rattle.read.specs.declared.State.{State}
+use Rattle.read.specs.declared.Made.{Made}
+use Rattle.read.specs.declared.Reply.{Reply}
+use Rattle.read.specs.declared.Verdict.{Verdict}
+use Rattle.read.specs.declared.Verdict.the-variants.{Admitted, Refused}
+use Rattle.read.specs.Machine.{slotCount, noSlot, underway, place, anyOpen}
+use Rattle.read.specs.Handles.{smallest, handleSigns, withDue, loaded, wentOn, handled, handleOn}
+use Rattle.read.specs.Calls.{Lent, lent, slotAt, withSlot, createSigns, createReply, firstFree}
+use Rattle.write.specs.declared.Moved.{Moved}
+use Rattle.write.specs.declared.Opening.{Opening}
+use Rattle.write.specs.declared.Opening.the-variants as opening
+use Rattle.write.specs.Call.{Create, On, Append, Open}
+use Rattle.write.specs.Steps.{holds, seen, stepAt}
+use Rattle.write.specs.Begins.{lawfulBatch, crowds, writerSigns, columnOf, appendOn, openOn, opened}
+use Rattle.write.specs.Runs.{snapAt, lift}
+use Rattle.write.specs.Machine.{callOn}
+use Rattle.write.specs.World.{worldOf}
+use Rattle.demands.specs.Batches.{aside}
+
+-- ---- two choices by one test
+
+module _ {A B : Type 0} (f : A → B) where
+  test-same : (b : Bool) {x y u v : A} → f x ≡ f u → f y ≡ f v → f (elim b [ true ↦ x | false ↦ y ]) ≡ f (elim b [ true ↦ u | false ↦ v ])
+  test-same true p q = p
+  test-same false p q = q
+
+  verdict-same : (v : Verdict) {x u : A} {y t : Answer → A} → f x ≡ f u → ((a : Answer) → f (y a) ≡ f (t a)) →
+      f (elim v [ Admitted ↦ x | Refused a ↦ y a ]) ≡ f (elim v [ Admitted ↦ u | Refused a ↦ t a ])
+  verdict-same Admitted p q = p
+  verdict-same (Refused a) p q = q a
+
+-- ---- what is put aside: of a slot, of what comes of a call on it, and of what comes of a call
+
+abbrev pub hide : Slot → Slot
+hide s = withDue 0 (s .due) s
+
+abbrev hideMade : Made → Made
+hideMade m = record { answer = m .answer; value = m .value; slot = hide (m .slot) }
+
+abbrev pub hideIn : Lent Reply → Lent Reply
+hideIn o =
+    let w = aside (worldOf o) in
+    lent (record { answer = o .made .answer; value = o .made .value; state = w .state }) (w .left) (w .right) (w .log)
+
+-- ---- a call on a handle
+
+module _ (c : Control) (s : Slot) (l r : List ℕ) where
+  loaded-same : (d : Due) → hideMade (loaded c d s) ≡ hideMade (loaded c d (hide s))
+  loaded-same d = test-same hideMade (c .null) refl refl
+
+  handled-same : (h : Handle) → hideMade (handled c s h l r) ≡ hideMade (handled c (hide s) h l r)
+  unfolding handled
+  handled-same Drop = refl
+  handled-same Enter = test-same hideMade (anyOpen (s .guards)) (loaded-same (s .due)) refl
+  handled-same GoOn = go (s .due)
+    where
+      go : (d : Due) → hideMade (wentOn c d s) ≡ hideMade (wentOn c d (hide s))
+      go Nothing = refl
+      go Load = loaded-same Restore
+      go Restore = refl
+  handled-same (Release j) = refl
+  handled-same (LookUp j key) = refl
+  handled-same WasDropped = refl
+
+  handle-same : (h : Handle) → hideMade (handleOn c true s h l r) ≡ hideMade (handleOn c true (hide s) h l r)
+  unfolding handleOn
+  handle-same h = verdict-same hideMade (smallest (handleSigns c true s h)) (handled-same h) (λ a. refl)
+
+-- ---- a call on the machine, but a step and a run
+
+abbrev pub state : Control → Slot → List Slot → ℕ → List ℕ → State
+state c s ss e es = record { control = c; slots = s ∷ ss; snapshots = e ∷ es }
+
+module _ (c : Control) (s : Slot) (ss : List Slot) (e : ℕ) (es l r g : List ℕ) where
+  abbrev full : State
+  full = state c s ss e es
+
+  abbrev bare : State
+  bare = state c (hide s) ss 0 es
+
+  new-same : (i : ℕ) → hideIn (lent (createReply i full) l r g) ≡ hideIn (lent (createReply i bare) l r g)
+  new-same zero = verdict-same (λ (o : Reply). hideIn (lent o l r g)) (smallest (createSigns c 0)) refl (λ a. refl)
+  new-same (suc i) = verdict-same (λ (o : Reply). hideIn (lent o l r g)) (smallest (createSigns c (suc i))) refl (λ a. refl)
+
+  pub create-same : hideIn (callOn Create full l r g) ≡ hideIn (callOn Create bare l r g)
+  unfolding callOn
+  create-same = new-same (firstFree (s ∷ ss)) ∙ (λ i. hideIn (lent (createReply (seek (λ k. not (used k i)) 0 slotCount) bare) l r g))
+    where
+      used : (k : ℕ) → getD (s ∷ ss) k noSlot .used ≡ getD (hide s ∷ ss) k noSlot .used
+      used zero = refl
+      used (suc k) = refl
+
+  pub on-same : (i : ℕ) (h : Handle) → hideIn (callOn (On i h) full l r g) ≡ hideIn (callOn (On i h) bare l r g)
+  unfolding callOn
+  on-same zero h =
+      test-same (λ (o : Reply). hideIn (lent o l r g)) (ltb 0 slotCount)
+      (ap (λ (m : Made). hideIn (lent (record { answer = m .answer; value = m .value; state = withSlot 0 (m .slot) full }) l r g)) (handle-same c s l r h)) refl
+  on-same (suc i) h = test-same (λ (o : Reply). hideIn (lent o l r g)) (ltb (suc i) slotCount) refl refl
+
+  pub append-same : (os : List Op) → hideIn (callOn (Append os) full l r g) ≡ hideIn (callOn (Append os) bare l r g)
+  unfolding callOn appendOn
+  append-same os =
+      verdict-same (λ (m : Lent Moved). hideIn (lift 0 full m)) (smallest (writerSigns 7 (not (lawfulBatch os)) (crowds (length os) c) c s))
+      (test-same (λ (m : Lent Moved). hideIn (lift 0 full m)) (c .first) refl refl) (λ a. refl)
+
+  pub open-same : (o : Opening) → hideIn (callOn (Open o) full l r g) ≡ hideIn (callOn (Open o) bare l r g)
+  unfolding callOn openOn opened
+  open-same o =
+      verdict-same (λ (m : Moved). hideIn (lift 0 full (lent m l r g))) (smallest (writerSigns (columnOf o) false false c s)) (begins o) (λ a. refl)
+    where
+      begins : (o : Opening) → hideIn (lift 0 full (lent (opened o c s e) l r g)) ≡ hideIn (lift 0 full (lent (opened o c (hide s) 0) l r g))
+      begins opening.Publish = refl
+      begins opening.Try = refl
+      begins opening.Flush = test-same (λ (m : Moved). hideIn (lift 0 full (lent m l r g))) (ltb (c .swapped) (c .length)) refl refl
+      begins opening.Take = refl
+
+  -- ---- a step of the writer changes no epoch, so they stay aside
+
+  none-seen : seen (hide s) 0 ≡ 0
+  none-seen = by (λ (n : ℕ). n ≡ 0) (s .used) (λ _. refl) (λ _. refl)
+
+  pub free-same : (p : Phase) → (underway p ≡ true → holds s e ≡ false) → let i = place p in
+      lift i bare (stepAt p c (slotAt bare i) (snapAt bare i) l r g) ≡ hideIn (lift i full (stepAt p c (slotAt full i) (snapAt full i) l r g))
+  unfolding stepAt
+  free-same Idle f = refl
+  free-same Begin f = refl
+  free-same (Poll zero) f = simp (and-false, f refl)
+  free-same (Poll (suc k)) f = refl
+  free-same Copy f = refl
+  free-same Drain f = refl
+  free-same (Keep k) f = refl
+  free-same Swap f = refl
+  free-same (Snap zero) f = simp none-seen
+  free-same (Snap (suc k)) f = refl
+  free-same Null f = refl
+  free-same Lock f = refl
+  free-same (LastSnap zero) f = simp none-seen
+  free-same (LastSnap (suc k)) f = refl
+  free-same (LastPoll zero) f = simp (and-false, f refl)
+  free-same (LastPoll (suc k)) f = refl
+  free-same Finish f = refl
+  free-same Gone f = refl
