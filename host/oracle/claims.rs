@@ -70,6 +70,27 @@ fn first_publishes() -> Result<(), String> {
     holds(work_done().synchronised == 1, "the second publish synchronises")
 }
 
+/// While `first` the writer's own handle enters and leaves once for all of a batch, and for an empty one too.
+fn batches() -> Result<(), String> {
+    let mut world = World::new(false);
+    world.extend(vec![ADD, ADD, Change::Drop(7)]);
+    holds(work_done().second == 3, "a batch while `first` is applied at once, as second absorptions")?;
+    holds(world.shown().unwrap().log.is_empty(), "a batch while `first` is not logged")?;
+    holds(world.epoch(0) == 2, "a batch while `first` moves the writer's own epoch by 2")?;
+    world.extend(Vec::new());
+    holds(world.epoch(0) == 4, "an empty batch while `first` moves the writer's own epoch by 2")?;
+
+    world.publish();
+    world.extend(vec![ADD, Change::Drop(7)]);
+    world.extend(Vec::new());
+    holds(work_done().second == 0, "a later batch is not applied")?;
+    holds(
+        world.shown().unwrap().log == "Add(7, 3), Drop(7)",
+        "a later batch is logged, and an empty one adds nothing",
+    )?;
+    holds(world.epoch(0) == 4, "a later batch leaves the writer's own epoch alone")
+}
+
 /// Publish is not the only call that makes appends visible.
 fn exposed() -> Result<(), String> {
     let mut world = World::new(false);
@@ -205,6 +226,7 @@ fn forgotten_guard() -> Result<(), String> {
 pub fn all() -> Result<String, String> {
     second_from_the_start()?;
     first_publishes()?;
+    batches()?;
     exposed()?;
     taken()?;
     take_leaves_handles()?;

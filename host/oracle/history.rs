@@ -2,12 +2,12 @@
 
 use crate::world::{work_done, Change, Counts, World, GUARDS, SLOTS};
 use common::answer::{DECLINED, DONE, NONE};
-use common::{call, file, kind, steps, Player, Random, Record, Reply, ENTRY, LOG_ROOM};
+use common::{answered, call, file, kind, steps, Player, Random, Record, Reply, BATCH_ROOM, ENTRY, LOG_ROOM};
 use reference::{Machine, Operation, Phase};
 use std::sync::Mutex;
 
 /// A whole call: an enter goes on to its end, and publish, try, flush and take are run.
-#[derive(Clone, Copy, Debug, PartialEq, Eq)]
+#[derive(Clone, Debug, PartialEq, Eq)]
 pub enum Call {
     Create,
     Drop(usize),
@@ -16,6 +16,7 @@ pub enum Call {
     LookUp(usize, usize, u64),
     WasDropped(usize),
     Append(Operation),
+    Batch(Vec<Operation>),
     Publish,
     Try,
     Flush,
@@ -35,12 +36,13 @@ mod number {
     pub const LOOK_UP: usize = 4;
     pub const WAS_DROPPED: usize = 5;
     pub const APPEND: usize = 6;
-    pub const PUBLISH: usize = 7;
-    pub const TRY: usize = 8;
-    pub const FLUSH: usize = 9;
-    pub const TAKE: usize = 10;
-    pub const TABLE: usize = 11;
-    pub const INSIDE: usize = 12;
+    pub const BATCH: usize = 7;
+    pub const PUBLISH: usize = 8;
+    pub const TRY: usize = 9;
+    pub const FLUSH: usize = 10;
+    pub const TAKE: usize = 11;
+    pub const TABLE: usize = 12;
+    pub const INSIDE: usize = 13;
 }
 
 pub const CALLS: usize = number::INSIDE + 1;
@@ -52,6 +54,7 @@ pub const NAMES: [&str; CALLS] = [
     "look-ups",
     "was-dropped",
     "appends",
+    "batches",
     "publishes",
     "tries",
     "flushes",
@@ -70,6 +73,7 @@ impl Call {
             Call::LookUp(..) => number::LOOK_UP,
             Call::WasDropped(..) => number::WAS_DROPPED,
             Call::Append(..) => number::APPEND,
+            Call::Batch(..) => number::BATCH,
             Call::Publish => number::PUBLISH,
             Call::Try => number::TRY,
             Call::Flush => number::FLUSH,
@@ -91,6 +95,9 @@ pub struct Met {
     pub full_logs: u64,
     pub none: u64,
     pub idle_flushes: u64,
+    pub empty_batches: u64,
+    pub batches_while_first: u64,
+    pub full_batches: u64,
     pub records: u64,
 }
 
@@ -106,6 +113,9 @@ impl Met {
         self.full_logs += other.full_logs;
         self.none += other.none;
         self.idle_flushes += other.idle_flushes;
+        self.empty_batches += other.empty_batches;
+        self.batches_while_first += other.batches_while_first;
+        self.full_batches += other.full_batches;
         self.records += other.records;
     }
 }
@@ -118,7 +128,7 @@ pub struct Run {
     world: World,
     pub machine: Machine,
     pub records: Vec<Record>,
-    /// For each record, what the crate says of it, and what our rules say.
+    /// For each call, what the crate says of it, and what our rules say.
     said: Vec<(u8, Option<u64>)>,
     ruled: Vec<Reply>,
     highest: usize,
@@ -126,7 +136,7 @@ pub struct Run {
     read_from: [u64; SLOTS],
     handle: [u64; SLOTS],
     created: u64,
-    /// The first record of which the crate and our rules say different things. The history ends there, since the two
+    /// The first call of which the crate and our rules say different things. The history ends there, since the two
     /// sides go apart.
     apart: Option<String>,
     pub met: Met,
@@ -191,6 +201,7 @@ impl Run {
     /// Can the crate make this call on one thread, and our machine too? A history leaves out what neither or only one
     /// can: waiting calls, our bounds, and what the crate's borrow rules do not let one write.
     pub fn admits(&self, call: &Call) -> bool {
+        let room = |operations| self.machine.first || self.machine.log.len() + operations <= LOG_ROOM;
         match *call {
             Call::Create => (0..SLOTS).any(|slot| !self.used(slot)),
             Call::Drop(slot) => {
@@ -202,7 +213,8 @@ impl Run {
                 self.guarded(slot, guard)
             }
             Call::WasDropped(slot) => self.used(slot),
-            Call::Append(_) => self.writer_free() && (self.machine.first || self.machine.log.len() < LOG_ROOM),
+            Call::Append(_) => self.writer_free() && room(1),
+            Call::Batch(ref all) => self.writer_free() && all.len() <= BATCH_ROOM && room(all.len()),
             Call::Publish => self.writer_free() && (self.machine.first || self.waits_at().is_none()),
             Call::Flush => {
                 let idle = self.machine.swap_index >= self.machine.log.len();
@@ -216,21 +228,28 @@ impl Run {
 
     /// A record on our side; what the crate says of it is given beside.
     fn ours(&mut self, record: Record, answer: u8, value: Option<u64>) {
-        let reply = self.machine.call(&record);
-        self.both(record, (answer, value), reply);
+        self.all_ours(&[record], answer, value);
     }
 
-    fn both(&mut self, record: Record, said: (u8, Option<u64>), ruled: Reply) {
-        self.records.push(record);
+    /// A record with its members.
+    fn all_ours(&mut self, turn: &[Record], answer: u8, value: Option<u64>) {
+        let reply = self.machine.call(&mut turn.iter().copied());
+        self.both(turn, (answer, value), reply);
+    }
+
+    fn both(&mut self, turn: &[Record], said: (u8, Option<u64>), ruled: Reply) {
+        self.records.extend(turn);
         self.said.push(said);
         self.ruled.push(ruled);
         if self.apart.is_none() && !agree(said, ruled) {
             let what = format!("the reference gave {ruled}");
-            self.apart = Some(format!("{} {what}, and the crate {}", self.place(self.records.len() - 1), told(said)));
+            self.apart = Some(format!("{} {what}, and the crate {}", self.place(self.said.len() - 1), told(said)));
         }
     }
 
-    fn place(&self, at: usize) -> String {
+    /// Where a call stands in the schedule.
+    fn place(&self, call: usize) -> String {
+        let at = answered(&self.records, call);
         format!("record {} ({}):", at + 1, common::line(&self.records[at]))
     }
 
@@ -281,18 +300,19 @@ impl Run {
                 self.ours(Record::on(slot as u8, call::WAS_DROPPED), DONE, Some(dropped as u64));
             }
             Call::Append(operation) => {
-                let Operation { kind, key, amount } = operation;
-                self.world.append(match kind {
-                    kind::ADD => Change::Add(key, amount),
-                    kind::DROP => Change::Drop(key),
-                    _ => Change::Clear,
-                });
-                let work = work_done();
-                if (work.second, work.first) != (self.machine.first as u64, 0) {
-                    return Err(format!("the crate applied {work:?} at an append"));
-                }
-                self.ours(Record::append(kind, key, amount), DONE, Some(0));
-                self.met.full_logs += (self.machine.log.len() == LOG_ROOM) as u64;
+                self.world.append(change(&operation));
+                self.appended(&[append(&operation)], 1)?;
+            }
+            Call::Batch(operations) => {
+                self.met.empty_batches += operations.is_empty() as u64;
+                self.met.full_batches += (operations.len() == BATCH_ROOM) as u64;
+                self.met.batches_while_first += self.machine.first as u64;
+                self.world.extend(operations.iter().map(change).collect());
+                let mut turn = vec![Record::batch(operations.len() as u64)];
+                turn.extend(operations.iter().map(append));
+                self.appended(&turn, operations.len())?;
+                // No answer shows how far slot 0's epoch went, nor the log.
+                self.inside()?;
             }
             Call::Publish => {
                 let polls = if self.machine.first { 0 } else { steps::SLOTS };
@@ -337,6 +357,18 @@ impl Run {
             Call::Table(slot, guard) => self.table(slot, guard)?,
             Call::Inside => self.inside()?,
         }
+        Ok(())
+    }
+
+    /// While `first` each operation is applied at once, later none is.
+    fn appended(&mut self, turn: &[Record], operations: usize) -> Outcome {
+        let work = work_done();
+        let at_once = if self.machine.first { operations as u64 } else { 0 };
+        if (work.second, work.first) != (at_once, 0) {
+            return Err(format!("the crate applied {work:?} at an append of {operations}"));
+        }
+        self.all_ours(turn, DONE, Some(0));
+        self.met.full_logs += (operations > 0 && self.machine.log.len() == LOG_ROOM) as u64;
         Ok(())
     }
 
@@ -404,7 +436,7 @@ impl Run {
         same("the copy that take hands over", Some(&ended.handed), self.machine.copies[kept].view())?;
         let last = self.machine.run();
         let whole = Reply { answer: last.answer, value: made + last.value };
-        self.both(Record::of(call::RUN), (DONE, Some(steps)), whole);
+        self.both(&[Record::of(call::RUN)], (DONE, Some(steps)), whole);
         Ok(())
     }
 
@@ -440,15 +472,7 @@ impl Run {
             }
         }
         let Some(shown) = self.world.shown() else { return Ok(()) };
-        let log: Vec<String> = machine
-            .log
-            .iter()
-            .map(|operation| match operation.kind {
-                kind::ADD => format!("Add({}, {})", operation.key, operation.amount),
-                kind::DROP => format!("Drop({})", operation.key),
-                _ => "Clear".to_string(),
-            })
-            .collect();
+        let log: Vec<String> = machine.log.iter().map(|operation| format!("{:?}", change(operation))).collect();
         if shown.log != log.join(", ") {
             return Err(format!("the crate's log is {}, ours {}", shown.log, log.join(", ")));
         }
@@ -464,10 +488,10 @@ impl Run {
     pub fn judge(&mut self, player: Player) -> Result<Agreed, String> {
         self.met.records = self.records.len() as u64;
         let bytes = common::schedule(&self.records);
-        let mut out = vec![0; self.records.len() * ENTRY];
+        let mut out = vec![0; self.said.len() * ENTRY];
         let played = player(&bytes, &mut out);
         if played != (file::PLAYED, out.len() as u64) {
-            return Err(format!("the player said {played:?} of a schedule of {} records", self.records.len()));
+            return Err(format!("the player said {played:?} of a schedule of {} calls", self.said.len()));
         }
         for (at, entry) in out.chunks_exact(ENTRY).enumerate() {
             let reply = Reply::from_bytes(entry);
@@ -482,6 +506,19 @@ impl Run {
         }
         Ok((bytes, out))
     }
+}
+
+/// An operation as the crate has it, and as a schedule has it.
+fn change(operation: &Operation) -> Change {
+    match operation.kind {
+        kind::ADD => Change::Add(operation.key, operation.amount),
+        kind::DROP => Change::Drop(operation.key),
+        _ => Change::Clear,
+    }
+}
+
+fn append(operation: &Operation) -> Record {
+    Record::append(operation.kind, operation.key, operation.amount)
 }
 
 fn agree(said: (u8, Option<u64>), reply: Reply) -> bool {
@@ -511,7 +548,7 @@ pub fn replay(calls: &[Call], player: Player) -> (Run, Outcome) {
     let mut run = Run::new(true);
     for call in calls {
         if run.admits(call) {
-            if let Err(what) = run.make(*call) {
+            if let Err(what) = run.make(call.clone()) {
                 return (run, Err(what));
             }
         }
@@ -532,7 +569,7 @@ fn unfold(choose: &mut Random, run: &mut Run) -> Outcome {
     let next = |run: &mut Run, call: Call| -> Result<bool, String> {
         let admitted = run.admits(&call);
         if admitted {
-            UNDER_WAY.lock().unwrap().1.push(call);
+            UNDER_WAY.lock().unwrap().1.push(call.clone());
             run.make(call)?;
         }
         Ok(admitted)
@@ -542,7 +579,8 @@ fn unfold(choose: &mut Random, run: &mut Run) -> Outcome {
     while left > 0 {
         left -= 1;
         let call = plan.next(choose, run);
-        if next(run, call)? && call == Call::Take {
+        let takes = call == Call::Take;
+        if next(run, call)? && takes {
             // Not much can happen after it.
             left = left.min(10);
         }
@@ -633,6 +671,7 @@ impl Plan {
             number::LOOK_UP => Call::LookUp(inside, guard, self.key(choose)),
             number::WAS_DROPPED => Call::WasDropped(slot),
             number::APPEND => Call::Append(self.operation(choose)),
+            number::BATCH => Call::Batch(self.batch(choose, LOG_ROOM - run.machine.log.len())),
             number::PUBLISH => Call::Publish,
             number::TRY => Call::Try,
             number::FLUSH => Call::Flush,
@@ -642,13 +681,25 @@ impl Plan {
         };
         match call {
             // The writer cannot: its own handle is inside, or it would wait. A try says the latter on both sides.
-            Call::Append(_) | Call::Publish | Call::Try | Call::Flush if run.guards(0) > 0 && !run.gone() => {
+            Call::Append(_) | Call::Batch(_) | Call::Publish | Call::Try | Call::Flush
+                if run.guards(0) > 0 && !run.gone() =>
+            {
                 Call::Release(0, (0..GUARDS).find(|&guard| run.guarded(0, guard)).unwrap())
             }
             Call::Publish | Call::Flush if !run.admits(&call) => Call::Try,
             Call::Take if !run.admits(&call) => Call::Release(inside, guard),
             _ => call,
         }
+    }
+
+    /// From none to as many as there may be, and often as many as the log has room for.
+    fn batch(&self, choose: &mut Random, room: usize) -> Vec<Operation> {
+        let size = match choose.below(8) {
+            0 => choose.below(BATCH_ROOM + 1),
+            1 => BATCH_ROOM.min(room),
+            _ => choose.below(4),
+        };
+        (0..size).map(|_| self.operation(choose)).collect()
     }
 
     fn operation(&self, choose: &mut Random) -> Operation {
@@ -668,6 +719,7 @@ impl Plan {
 /// Simpler calls that may stand in for one, to make a difference easier to read.
 pub fn simpler(call: &Call) -> Vec<Call> {
     match *call {
+        Call::Batch(ref all) => vec![Call::Batch(vec![Operation { kind: kind::ADD, key: 1, amount: 1 }; all.len()])],
         Call::Append(Operation { kind: kind::ADD, key, amount }) => {
             let add = |key, amount| Call::Append(Operation { kind: kind::ADD, key, amount });
             vec![add(1, 1), add(key, 1), add(1, amount)]
@@ -678,5 +730,20 @@ pub fn simpler(call: &Call) -> Vec<Call> {
         Call::LookUp(slot, guard, _) => vec![Call::LookUp(slot, guard, 1), Call::LookUp(slot, guard, 0)],
         Call::Flush => vec![Call::Publish],
         _ => Vec::new(),
+    }
+}
+
+/// What a batch holds, to find out which of it makes a difference.
+pub fn operations(call: &Call) -> Vec<Operation> {
+    match call {
+        Call::Batch(all) => all.clone(),
+        _ => Vec::new(),
+    }
+}
+
+pub fn with_operations(call: &Call, some: &[Operation]) -> Call {
+    match call {
+        Call::Batch(_) => Call::Batch(some.to_vec()),
+        _ => call.clone(),
     }
 }

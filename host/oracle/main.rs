@@ -15,8 +15,8 @@ mod history;
 mod sample;
 mod world;
 
-use common::Player;
-use history::{random, replay, simpler, Call, Met, NAMES, UNDER_WAY};
+use common::{Player, BATCH_ROOM};
+use history::{operations, random, replay, simpler, with_operations, Call, Met, NAMES, UNDER_WAY};
 use std::panic::{catch_unwind, set_hook, AssertUnwindSafe};
 use std::process::{exit, ExitCode};
 use std::sync::atomic::{AtomicU64, Ordering};
@@ -63,6 +63,7 @@ fn report(player: Player) {
     let (seed, calls) = UNDER_WAY.lock().unwrap().clone();
     let fails = |calls: &[Call]| differs(calls, player).is_some();
     let calls = common::shrink(calls, fails);
+    let calls = common::shrink_within(calls, operations, with_operations, fails);
     let calls = common::simplify(calls, simpler, fails);
     let calls = common::shrink(calls, fails);
     println!("a difference, from the history of seed {seed}:");
@@ -82,8 +83,8 @@ fn said(player: Player) -> Result<String, String> {
 fn main() -> ExitCode {
     let mut words = std::env::args().skip(1).peekable();
     let file = words.next_if(|word| word == "sample").map(|_| words.next().expect("a file for the sample"));
-    let histories = common::number(words.next(), if file.is_some() { 150 } else { 100_000 });
-    let seed = common::number(words.next(), if file.is_some() { 8289 } else { 1 });
+    let histories = common::number(words.next(), if file.is_some() { 120 } else { 100_000 });
+    let seed = common::number(words.next(), if file.is_some() { 2391 } else { 1 });
     let (name, player) = match lrt::player() {
         Some(player) => ("the proved player", player),
         None => ("the reference player", reference::play as Player),
@@ -115,14 +116,18 @@ fn main() -> ExitCode {
     println!("all agree, {} records in {:.1} s: {}", met.records, start.elapsed().as_secs_f64(), calls.join(", "));
     println!(
         "among them {} tries declined, {} of these by a later handle in the slot; {} enters with guards on both copies, \
-         {} that found none; {} flushes with nothing to do; {} looks at a spilled table; {} appends that filled the log",
+         {} that found none; {} flushes with nothing to do; {} looks at a spilled table; {} appends and batches that \
+         filled the log; {} batches while no publish had been, {} of none, {} of {BATCH_ROOM}",
         met.declined,
         met.declined_by_a_later_handle,
         met.two_copies,
         met.none,
         met.idle_flushes,
         met.spilled,
-        met.full_logs
+        met.full_logs,
+        met.batches_while_first,
+        met.empty_batches,
+        met.full_batches
     );
 
     // From here on threads wait on purpose, with limits of their own; beside these there is one for the whole.

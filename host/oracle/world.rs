@@ -204,6 +204,10 @@ impl World {
         self.writer().append(change);
     }
 
+    pub fn extend(&mut self, changes: Vec<Change>) {
+        self.writer().extend(changes);
+    }
+
     /// False where it would wait, which only a careful world says.
     pub fn publish(&mut self) -> bool {
         if self.careful && !self.shown().unwrap().first {

@@ -10,11 +10,11 @@ use read::Reply;
 use read::State;
 use read::Verdict;
 use table::Answer;
-use write::Call;
 use write::Opening;
 use write::begins;
 ghost use mathlib.Core.Path.{_≡_};
 ghost use Rattle.read.specs.Calls.{lent, refusal as refusalRule, startRule, handleRule, createRule, viewRule, pairRule};
+ghost use Rattle.write.specs.Call.{Append, Open, Step, Run, appendOne, opsIn};
 ghost use Rattle.write.specs.Machine.{callRule};
 
 pub(crate) fn refusal(a: Answer, st: State) -> Reply
@@ -158,8 +158,25 @@ pub fn pair<'a>(
 
 // ---- the writer's calls that are made at once
 
-// Appends an operation: while `first` it is applied at once to the copy that no reader sees, later it is added to the log.
-// Readers see it after the next publish that swaps.
+// Appends operations, three words each: all of them or none. While `first` they are applied at once, in order, to the copy that no
+// reader sees, later they are added to the log. Readers see them after the next publish that swaps. More than 64, a bad one, or words
+// whose number is no multiple of three: refused with 5.
+pub fn extend(st: State, ops: &[u64], left: &mut [u64], right: &mut [u64], log: &mut [u64]) -> Reply
+    ensures { λ r. ⌜ lent r (now (left .exit)) (now (right .exit)) (now (log .exit)) ≡ callRule (Append (opsIn (now (ops .entry)))) st (now (left .entry)) (now (right .entry)) (now (log .entry)) ⌝ }
+{
+    let c = st.control;
+    let v = judge::judge(c, &left[..], &right[..], &log[..]);
+    match v {
+        Verdict::Admitted => {
+            let snaps = st.snapshots;
+            let m = begins::extend_on(ops, c, read::slot_at(st, 0), snaps[0], left, right, log);
+            writes::put_back(0, st, m)
+        }
+        Verdict::Refused(a) => refusal(a, st),
+    }
+}
+
+// Appends one operation.
 pub fn append(
     st: State,
     kind: u64,
@@ -169,47 +186,29 @@ pub fn append(
     right: &mut [u64],
     log: &mut [u64],
 ) -> Reply
-    ensures { λ r. ⌜ lent r (now (left .exit)) (now (right .exit)) (now (log .exit)) ≡ callRule (Call.Append kind key amount) st (now (left .entry)) (now (right .entry)) (now (log .entry)) ⌝ }
+    ensures { λ r. ⌜ lent r (now (left .exit)) (now (right .exit)) (now (log .exit)) ≡ callRule (appendOne kind key amount) st (now (left .entry)) (now (right .entry)) (now (log .entry)) ⌝ }
 {
-    let c = st.control;
-    let v = judge::judge(c, &left[..], &right[..], &log[..]);
-    match v {
-        Verdict::Admitted => {
-            let snaps = st.snapshots;
-            let m = begins::append_on(
-                kind,
-                key,
-                amount,
-                c,
-                read::slot_at(st, 0),
-                snaps[0],
-                left,
-                right,
-                log,
-            );
-            writes::put_back(0, st, m)
-        }
-        Verdict::Refused(a) => refusal(a, st),
-    }
+    let ops = [kind, key, amount];
+    extend(st, &ops, left, right, log)
 }
 
 // Begins a publish. Its steps wait, slot by slot, for the readers that may still stand on the copy that is written.
 pub fn publish(st: State, left: &[u64], right: &[u64], log: &[u64]) -> Reply
-    ensures { λ r. ⌜ lent r (now (left .entry)) (now (right .entry)) (now (log .entry)) ≡ callRule (Call.Open Opening.Publish) st (now (left .entry)) (now (right .entry)) (now (log .entry)) ⌝ }
+    ensures { λ r. ⌜ lent r (now (left .entry)) (now (right .entry)) (now (log .entry)) ≡ callRule (Open Opening.Publish) st (now (left .entry)) (now (right .entry)) (now (log .entry)) ⌝ }
 {
     writes::begin(Opening::Publish, st, left, right, log)
 }
 
 // Begins a publish that declines where it would wait.
 pub fn try_publish(st: State, left: &[u64], right: &[u64], log: &[u64]) -> Reply
-    ensures { λ r. ⌜ lent r (now (left .entry)) (now (right .entry)) (now (log .entry)) ≡ callRule (Call.Open Opening.Try) st (now (left .entry)) (now (right .entry)) (now (log .entry)) ⌝ }
+    ensures { λ r. ⌜ lent r (now (left .entry)) (now (right .entry)) (now (log .entry)) ≡ callRule (Open Opening.Try) st (now (left .entry)) (now (right .entry)) (now (log .entry)) ⌝ }
 {
     writes::begin(Opening::Try, st, left, right, log)
 }
 
 // Begins a publish if the log holds operations that readers do not see yet: value 1. Else nothing changes: value 0.
 pub fn flush(st: State, left: &[u64], right: &[u64], log: &[u64]) -> Reply
-    ensures { λ r. ⌜ lent r (now (left .entry)) (now (right .entry)) (now (log .entry)) ≡ callRule (Call.Open Opening.Flush) st (now (left .entry)) (now (right .entry)) (now (log .entry)) ⌝ }
+    ensures { λ r. ⌜ lent r (now (left .entry)) (now (right .entry)) (now (log .entry)) ≡ callRule (Open Opening.Flush) st (now (left .entry)) (now (right .entry)) (now (log .entry)) ⌝ }
 {
     writes::begin(Opening::Flush, st, left, right, log)
 }
@@ -217,7 +216,7 @@ pub fn flush(st: State, left: &[u64], right: &[u64], log: &[u64]) -> Reply
 // Begins a take. Its steps publish what is left, make the pointer null and wait for the readers that are inside; then the writer is
 // gone, and the copy that the pointer named last is handed over.
 pub fn take(st: State, left: &[u64], right: &[u64], log: &[u64]) -> Reply
-    ensures { λ r. ⌜ lent r (now (left .entry)) (now (right .entry)) (now (log .entry)) ≡ callRule (Call.Open Opening.Take) st (now (left .entry)) (now (right .entry)) (now (log .entry)) ⌝ }
+    ensures { λ r. ⌜ lent r (now (left .entry)) (now (right .entry)) (now (log .entry)) ≡ callRule (Open Opening.Take) st (now (left .entry)) (now (right .entry)) (now (log .entry)) ⌝ }
 {
     writes::begin(Opening::Take, st, left, right, log)
 }
@@ -226,14 +225,14 @@ pub fn take(st: State, left: &[u64], right: &[u64], log: &[u64]) -> Reply
 
 // One step of the call that is under way. A poll that is held changes nothing, and is made again by the next step.
 pub fn step(st: State, left: &mut [u64], right: &mut [u64], log: &mut [u64]) -> Reply
-    ensures { λ r. ⌜ lent r (now (left .exit)) (now (right .exit)) (now (log .exit)) ≡ callRule Call.Step st (now (left .entry)) (now (right .entry)) (now (log .entry)) ⌝ }
+    ensures { λ r. ⌜ lent r (now (left .exit)) (now (right .exit)) (now (log .exit)) ≡ callRule Step st (now (left .entry)) (now (right .entry)) (now (log .entry)) ⌝ }
 {
     writes::go(false, st, left, right, log)
 }
 
 // Steps until the call ends, or a poll is held or declined. The value counts the steps that were made.
 pub fn run(st: State, left: &mut [u64], right: &mut [u64], log: &mut [u64]) -> Reply
-    ensures { λ r. ⌜ lent r (now (left .exit)) (now (right .exit)) (now (log .exit)) ≡ callRule Call.Run st (now (left .entry)) (now (right .entry)) (now (log .entry)) ⌝ }
+    ensures { λ r. ⌜ lent r (now (left .exit)) (now (right .exit)) (now (log .exit)) ≡ callRule Run st (now (left .entry)) (now (right .entry)) (now (log .entry)) ⌝ }
 {
     writes::go(true, st, left, right, log)
 }

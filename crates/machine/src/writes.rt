@@ -6,7 +6,6 @@ use read::Reply;
 use read::SLOTS;
 use read::State;
 use read::Verdict;
-use write::Call;
 use write::Moved;
 use write::Opening;
 use write::begins;
@@ -15,6 +14,7 @@ ghost use mathlib.Core.Bool.{true};
 ghost use Prim.Native.Nat.{_<_};
 ghost use Rattle.read.specs.Machine.{slotTotal, wholeControl};
 ghost use Rattle.read.specs.Calls.{lent};
+ghost use Rattle.write.specs.Call.{Open};
 ghost use Rattle.write.specs.Runs.{putBack};
 ghost use Rattle.write.specs.Machine.{going, goes, goingColumn, goingRule, callRule};
 
@@ -43,7 +43,7 @@ pub(crate) fn put_back(i: usize, st: State, m: Moved) -> Reply
 }
 
 pub(crate) fn begin(o: Opening, st: State, left: &[u64], right: &[u64], log: &[u64]) -> Reply
-    ensures { λ r. ⌜ lent r (now (left .entry)) (now (right .entry)) (now (log .entry)) ≡ callRule (Call.Open o) st (now (left .entry)) (now (right .entry)) (now (log .entry)) ⌝ }
+    ensures { λ r. ⌜ lent r (now (left .entry)) (now (right .entry)) (now (log .entry)) ≡ callRule (Open o) st (now (left .entry)) (now (right .entry)) (now (log .entry)) ⌝ }
 {
     let c = st.control;
     let v = judge::judge(c, left, right, log);

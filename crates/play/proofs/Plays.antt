@@ -167,10 +167,10 @@ module _ {s out₀ whole : List ℕ} {end : World} {out : List ℕ} {from to : �
 
       pub plays-next :
           {f : Far} {d : Control} {ts : List Slot} {fs l' r' g' : List ℕ} → Said (callOn call (stateOf c ss es) l r g) f d ts fs l' r' g' →
-          (out' : List ℕ) → out' ≡ take to out ++ (entryOf (f .answer) (f .value) ++ drop (to + entryBytes) out) →
-          Plays s out₀ whole end out' next (to + entryBytes) d ts fs l' r' g'
+          (out' : List ℕ) → out' ≡ take to out ++ (entryOf (f .answer) (f .value) ++ drop (to + entryBytes) out) → {x : ℕ} → x ≡ next →
+          Plays s out₀ whole end out' x (to + entryBytes) d ts fs l' r' g'
       unfolding entriesOf
-      plays-next {f} {d} {ts} {fs} {l'} {r'} {g'} q out' w =
+      plays-next {f} {d} {ts} {fs} {l'} {r'} {g'} q out' w there =
           let e : Said reply f d ts fs l' r' g' =
           subst (λ (o : Lent Reply). Said o f d ts fs l' r' g') (sym (call-made call (stateOf c ss es) l r g (p .sound))) q in
           let after : World = machine (stateOf d ts fs) l' r' g' in
@@ -186,6 +186,7 @@ module _ {s out₀ whole : List ℕ} {end : World} {out : List ℕ} {from to : �
           omega (arith, p .count, ap (λ (q : Played). length (entriesOf (q .replies))) opened) in
           let y : length whole ≡ length head + (length whole - (to + entryBytes)) = omega (arith, tall, many) in
           let z : to + entryBytes + (length whole - (to + entryBytes)) ≡ length whole = omega (arith, many) in
+          subst (λ (x : ℕ). Plays s out₀ whole end out' x (to + entryBytes) d ts fs l' r' g') (sym there)
           record {
             sound = subst (λ (w : World). Sound (w .state) (w .left) (w .right) (w .log)) (e .world) (sound-call call (stateOf c ss es) l r g (p .sound));
             upto = omega (arith, plays-record);

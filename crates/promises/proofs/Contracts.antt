@@ -79,6 +79,9 @@ abbrev pub κ₂ : Lfts 2
 abbrev pub κ₃ : Lfts 3
 κ₃ = ([], κ₂)
 
+abbrev pub κ₄ : Lfts 4
+κ₄ = ([], κ₃)
+
 -- ---- a promise, of a result
 
 -- of what comes back and of the parameters at exit

@@ -1,13 +1,15 @@
-//! Times the players on three schedules: mostly look-ups, mostly appends with a publish every 64, many held polls.
+//! Times the players on five schedules: mostly look-ups, mostly appends with a publish every 64, many held polls, batches
+//! of 64 with a publish after each, and the same operations and publishes without the batches.
 //!
 //!   bench [RECORDS]                              times
 //!   bench plays PLAYER SCHEDULE TIMES [RECORDS]  that many plays and no more, for something that counts instructions
+//!   bench appends SCHEDULE [RECORDS]             how many appends it has
 //!
 //! Each player plays each schedule a number of times, in turn, and the shortest time counts: what else the machine does
 //! only ever adds. The reference walks through the pairs of a table; `halving` is the same program with a search by
 //! halving.
 
-use common::{call, file, kind, schedule, Player, Random, Record, ENTRY, LOG_ROOM, SLOTS};
+use common::{call, file, kind, schedule, Player, Random, Record, BATCH_ROOM, ENTRY, SLOTS};
 use std::time::Instant;
 
 const TURNS: usize = 15;
@@ -44,19 +46,34 @@ fn look_ups(length: usize) -> Vec<Record> {
     records
 }
 
-fn appends(length: usize) -> Vec<Record> {
+/// A batch's worth of appends, and a publish.
+const ROUND: usize = BATCH_ROOM + PUBLISH.len();
+
+/// A first publish, then so many rounds, each with `before` ahead of it.
+fn rounds(count: usize, before: &[Record]) -> Vec<Record> {
     let mut choose = Random::new(2);
     let mut records = PUBLISH.to_vec();
-    while records.len() < length {
-        for _ in 0..LOG_ROOM / 4 {
+    for _ in 0..count {
+        records.extend(before);
+        for _ in 0..BATCH_ROOM {
             let key = key(&mut choose, KEYS);
             let drops = choose.chance(1, 8);
             records.push(if drops { Record::append(kind::DROP, key, 0) } else { Record::append(kind::ADD, key, 1) });
         }
         records.extend(PUBLISH);
     }
+    records
+}
+
+fn appends(length: usize) -> Vec<Record> {
+    let mut records = rounds(length.div_ceil(ROUND), &[]);
     records.truncate(length);
     records
+}
+
+/// No batch is cut, so these may be some records short.
+fn batches(length: usize, before: &[Record]) -> Vec<Record> {
+    rounds(length / (1 + ROUND), before)
 }
 
 fn held(length: usize) -> Vec<Record> {
@@ -86,8 +103,20 @@ fn named(name: &str, length: usize) -> Option<Vec<Record>> {
         "look-ups" => Some(look_ups(length)),
         "appends" => Some(appends(length)),
         "held-polls" => Some(held(length)),
+        "batches" => Some(batches(length, &[Record::batch(BATCH_ROOM as u64)])),
+        "one-by-one" => Some(batches(length, &[])),
         _ => None,
     }
+}
+
+/// Its bytes, and the transcript that it must have.
+fn wanted(records: &[Record]) -> (Vec<u8>, Vec<u8>) {
+    let bytes = schedule(records);
+    let mut transcript = vec![0; records.len() * ENTRY];
+    let (answer, written) = reference::play(&bytes, &mut transcript);
+    assert_eq!(answer, file::PLAYED);
+    transcript.truncate(written as usize);
+    (bytes, transcript)
 }
 
 fn players() -> Vec<(&'static str, Player)> {
@@ -114,23 +143,26 @@ fn plays(words: &mut impl Iterator<Item = String>) -> Option<()> {
     let name = words.next()?;
     let times = common::number(words.next(), 1);
     let records = named(&name, common::number(words.next(), RECORDS) as usize)?;
-    let bytes = schedule(&records);
-    let mut wanted = vec![0; records.len() * ENTRY];
-    reference::play(&bytes, &mut wanted);
+    let (bytes, wanted) = wanted(&records);
     for _ in 0..times {
         play(player, &bytes, &wanted);
     }
     Some(())
 }
 
+fn count_appends(words: &mut impl Iterator<Item = String>) -> Option<()> {
+    let name = words.next()?;
+    let records = named(&name, common::number(words.next(), RECORDS) as usize)?;
+    println!("{}", records.iter().filter(|record| record.call == call::APPEND).count());
+    Some(())
+}
+
 fn times(length: usize) {
     let players = players();
     println!("{length} records, shortest of {TURNS} turns");
-    for name in ["look-ups", "appends", "held-polls"] {
+    for name in ["look-ups", "appends", "held-polls", "batches", "one-by-one"] {
         let records = named(name, length).unwrap();
-        let bytes = schedule(&records);
-        let mut wanted = vec![0; records.len() * ENTRY];
-        reference::play(&bytes, &mut wanted);
+        let (bytes, wanted) = wanted(&records);
         let mut shortest = vec![f64::MAX; players.len()];
         for _ in 0..TURNS {
             for (best, (_, player)) in shortest.iter_mut().zip(&players) {
@@ -148,10 +180,16 @@ fn times(length: usize) {
 
 fn main() {
     let mut words = std::env::args().skip(1).peekable();
-    if words.next_if(|word| word == "plays").is_none() {
-        times(common::number(words.next(), RECORDS) as usize);
-    } else if plays(&mut words).is_none() {
-        eprintln!("bench plays PLAYER SCHEDULE TIMES [RECORDS]");
+    let done = match words.next_if(|word| word == "plays" || word == "appends").as_deref() {
+        Some("plays") => plays(&mut words),
+        Some(_) => count_appends(&mut words),
+        None => {
+            times(common::number(words.next(), RECORDS) as usize);
+            Some(())
+        }
+    };
+    if done.is_none() {
+        eprintln!("bench plays PLAYER SCHEDULE TIMES [RECORDS], or bench appends SCHEDULE [RECORDS]");
         std::process::exit(2)
     }
 }

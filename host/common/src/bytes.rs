@@ -32,6 +32,11 @@ impl Record {
         Record { kind, key, amount, ..Record::of(call::APPEND) }
     }
 
+    /// A batch of the appends that follow.
+    pub const fn batch(appends: u64) -> Record {
+        Record { amount: appends, ..Record::of(call::BATCH) }
+    }
+
     pub fn from_bytes(bytes: &[u8]) -> Record {
         Record {
             call: bytes[0],
@@ -82,6 +87,25 @@ impl std::fmt::Display for Reply {
     }
 }
 
+/// The records cut into turns, each a record and, behind a batch's own, its members, which get no entry. A batch that
+/// asks for more than there are has all the rest.
+pub fn turns(records: &[Record]) -> Vec<&[Record]> {
+    let mut turns = Vec::new();
+    let mut rest = records;
+    while let Some((first, behind)) = rest.split_first() {
+        let members = if first.call == call::BATCH { first.amount.min(behind.len() as u64) as usize } else { 0 };
+        let (turn, after) = rest.split_at(1 + members);
+        turns.push(turn);
+        rest = after;
+    }
+    turns
+}
+
+/// The place of the record that a transcript's entry belongs to.
+pub fn answered(records: &[Record], entry: usize) -> usize {
+    turns(records)[..entry].iter().map(|turn| turn.len()).sum()
+}
+
 /// A schedule file of these records.
 pub fn schedule(records: &[Record]) -> Vec<u8> {
     let mut bytes = Vec::with_capacity(HEADER + records.len() * RECORD);
@@ -103,6 +127,16 @@ mod tests {
         let bytes = record.to_bytes();
         assert_eq!(bytes[..12], [6, 5, 4, 3, 1, 2, 3, 4, 5, 6, 7, 8]);
         assert_eq!(Record::from_bytes(&bytes), record);
+    }
+
+    #[test]
+    fn members_are_of_their_batch() {
+        let (run, append) = (Record::of(call::RUN), Record::append(1, 2, 3));
+        let records = [append, Record::batch(2), append, append, append, Record::batch(0), run];
+        let lengths = |records: &[Record]| -> Vec<usize> { turns(records).iter().map(|turn| turn.len()).collect() };
+        assert_eq!(lengths(&records), [1, 3, 1, 1, 1]);
+        assert_eq!((answered(&records, 0), answered(&records, 2)), (0, 4));
+        assert_eq!(lengths(&[run, Record::batch(u64::MAX), append]), [1, 2]);
     }
 
     #[test]

@@ -8,9 +8,9 @@ mod random;
 mod shrink;
 mod text;
 
-pub use bytes::{schedule, Record, Reply};
+pub use bytes::{answered, schedule, turns, Record, Reply};
 pub use names::*;
 pub use program::{number, play_file, Player};
 pub use random::Random;
-pub use shrink::{shrink, simplify};
+pub use shrink::{shrink, shrink_within, simplify};
 pub use text::{line, text};

@@ -19,6 +19,8 @@ pub const LOG_ROOM: usize = 256;
 /// Kind, key and amount.
 pub const OPERATION_WORDS: usize = 3;
 pub const LOG_WORDS: usize = OPERATION_WORDS * LOG_ROOM;
+/// Operations in a batch.
+pub const BATCH_ROOM: usize = 64;
 
 /// What a run counts where nothing holds it.
 pub mod steps {
@@ -57,9 +59,10 @@ pub mod call {
     pub const TAKE: u8 = 12;
     pub const STEP: u8 = 13;
     pub const RUN: u8 = 14;
+    pub const BATCH: u8 = 15;
 
     pub const FIRST: u8 = CREATE;
-    pub const LAST: u8 = RUN;
+    pub const LAST: u8 = BATCH;
     pub const COUNT: usize = LAST as usize;
 
     /// In the text form, in the order of the numbers.
@@ -78,6 +81,7 @@ pub mod call {
         "take",
         "step",
         "run",
+        "batch",
     ];
 }
 

@@ -9,6 +9,7 @@ fn used(call: u8) -> [bool; 5] {
         call::RELEASE => [true, true, false, false, false],
         call::LOOK_UP => [true, true, false, true, false],
         call::APPEND => [false, false, true, true, true],
+        call::BATCH => [false, false, false, false, true],
         _ => [false; 5],
     }
 }
@@ -55,15 +56,23 @@ mod tests {
             (Record::of(call::TAKE), "take"),
             (Record::of(call::STEP), "step"),
             (Record::of(call::RUN), "run"),
+            (Record::batch(2), "batch 2"),
         ] {
             assert_eq!(line(&record), wanted);
         }
     }
 
     #[test]
+    fn members_have_lines_of_their_own() {
+        let records = [Record::batch(2), Record::append(1, 2, 3), Record::append(2, 3, 0), Record::of(call::PUBLISH)];
+        assert_eq!(text(&records), "batch 2\nappend 1 2 3\nappend 2 3 0\npublish\n");
+    }
+
+    #[test]
     fn unused_fields_are_told() {
         assert_eq!(line(&Record { amount: 1, ..Record::of(call::CREATE) }), "raw 1 0 0 0 0 1");
         assert_eq!(line(&Record { guard: 1, ..Record::append(1, 2, 3) }), "raw 8 0 1 1 2 3");
+        assert_eq!(line(&Record { key: 1, ..Record::batch(2) }), "raw 15 0 0 0 1 2");
         assert_eq!(line(&Record::of(99)), "raw 99 0 0 0 0 0");
     }
 }

@@ -1,6 +1,6 @@
 //! One file, and what two players do with it.
 
-use common::{Player, Record, Reply, ENTRY, HEADER, MARK, RECORD, VERSION};
+use common::{answered, Player, Record, Reply, ENTRY, HEADER, MARK, RECORD, VERSION};
 
 /// A file, well made or not, and how much room there is for its transcript.
 #[derive(Clone)]
@@ -65,7 +65,7 @@ impl Case {
             return Some("the other wrote outside of the transcript".to_string());
         }
         let entry = (at - one.start) / ENTRY;
-        let number = entry + 1;
+        let number = answered(&self.records()?, entry) + 1;
         Some(format!("record {number}: the reference gives {}, the other {}", one.reply(entry), two.reply(entry)))
     }
 }

@@ -8,21 +8,22 @@ mod case;
 mod report;
 mod schedules;
 
-use common::{answer, file, Player, Random, Reply};
+use common::{answer, call, file, turns, Player, Random, Reply};
 use std::process::ExitCode;
 use std::time::Instant;
 
-/// The program, but for the player that the reference is compared with: `[RECORDS [SEED]]` on the command line.
+/// The program, but for the player that the reference is compared with: `[CALLS [SEED]]` on the command line.
 pub fn compare(name: &str, other: Player) -> ExitCode {
     let mut words = std::env::args().skip(1);
-    let records = common::number(words.next(), 1_000_000);
+    let calls = common::number(words.next(), 1_000_000);
     let seed = common::number(words.next(), 1);
-    println!("the reference against {name}: {records} records from seed {seed}");
+    println!("the reference against {name}: {calls} calls from seed {seed}");
     let start = Instant::now();
-    let (mut played, mut files, mut runs) = (0, 0u64, seed);
+    let (mut played, mut records, mut files, mut runs) = (0, 0, 0u64, seed);
     let mut answers = [0u64; answer::COUNT];
+    let mut batches = [0u64; answer::COUNT];
     let mut refused = [0u64; file::COUNT];
-    while played < records {
+    while played < calls {
         let seed = runs;
         runs = runs.wrapping_add(1);
         let case = schedules::case(&mut Random::new(seed));
@@ -33,16 +34,24 @@ pub fn compare(name: &str, other: Player) -> ExitCode {
         files += 1;
         let outcome = case.played(reference::play);
         if outcome.answer == file::PLAYED {
-            for entry in outcome.entries() {
-                answers[Reply::from_bytes(entry).answer as usize] += 1;
+            let file = case.records().expect("a file that was played");
+            records += file.len();
+            for (turn, entry) in turns(&file).iter().zip(outcome.entries()) {
+                let answer = Reply::from_bytes(entry).answer as usize;
+                answers[answer] += 1;
+                batches[answer] += (turn[0].call == call::BATCH) as u64;
                 played += 1;
             }
         } else {
             refused[(outcome.answer - file::FIRST) as usize] += 1;
         }
     }
-    println!("all agree, {files} files and {played} records in {:.1} s", start.elapsed().as_secs_f64());
-    println!("answers met: {}; files refused: {}", list(&answers, 0), list(&refused, file::FIRST as usize));
+    let seconds = start.elapsed().as_secs_f64();
+    println!(
+        "all agree, {files} files, of which those played have {records} records and {played} calls, in {seconds:.1} s"
+    );
+    println!("answers met: {}; by batches: {}", list(&answers, 0), list(&batches, 0));
+    println!("files refused: {}", list(&refused, file::FIRST as usize));
     ExitCode::SUCCESS
 }
 

@@ -1,4 +1,4 @@
-//! Compares the proved player with the reference: `compare [RECORDS [SEED]]`.
+//! Compares the proved player with the reference: `compare [CALLS [SEED]]`.
 
 fn main() -> std::process::ExitCode {
     match lrt::player() {

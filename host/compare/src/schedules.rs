@@ -1,8 +1,10 @@
 //! What is played: random schedules, most of them far within the rules, and damaged files.
 
 use crate::case::Case;
-use common::{answer, call, kind, Random, Record, ENTRY, GUARDS, HEADER, PAIRS, RECORD, SLOTS};
-use reference::{Due, Machine};
+use common::{
+    answer, call, kind, turns, Random, Record, BATCH_ROOM, ENTRY, GUARDS, HEADER, LOG_ROOM, PAIRS, RECORD, SLOTS,
+};
+use reference::{Due, Machine, Operation};
 
 const TOP: u64 = u64::MAX;
 
@@ -19,9 +21,12 @@ const KINDS: [u8; 12] = {
 };
 
 /// The calls of handles that come and go.
-const CHURN: [u8; 16] = {
+const CHURN: [u8; 17] = {
     use call::*;
-    [CREATE, DROP, DROP, ENTER, GO_ON, RELEASE, RELEASE, LOOK_UP, APPEND, PUBLISH, PUBLISH, TRY, STEP, RUN, RUN, RUN]
+    [
+        CREATE, DROP, DROP, ENTER, GO_ON, RELEASE, RELEASE, LOOK_UP, APPEND, BATCH, PUBLISH, PUBLISH, TRY, STEP, RUN,
+        RUN, RUN,
+    ]
 };
 
 /// The calls of an end: many guards, and a take among them.
@@ -38,18 +43,19 @@ const fn at(call: u8) -> usize {
     (call - call::FIRST) as usize
 }
 
-/// Every field may be anything.
-fn wild(choose: &mut Random) -> Record {
+/// Every field may be anything, but for a batch's amount.
+fn wild(choose: &mut Random) -> Vec<Record> {
     let word = choose.word();
     let byte = |at: u64| (word >> (8 * at)) as u8;
-    Record {
+    let record = Record {
         call: call::FIRST + byte(0) % call::COUNT as u8,
         slot: byte(1),
         guard: byte(2),
         kind: byte(3),
         key: choose.word(),
         amount: choose.word(),
-    }
+    };
+    whole(choose, record, 3, LOG_ROOM)
 }
 
 /// Fields that mostly make sense; the limits and just past them come up too.
@@ -75,6 +81,55 @@ fn likely(choose: &mut Random, slots: usize, keys: u64, weights: &Weights) -> Re
         record.key = choose.pick(&[TOP, TOP - 1, 1 << 63]);
     }
     record
+}
+
+fn turn(choose: &mut Random, slots: usize, keys: u64, weights: &Weights) -> Vec<Record> {
+    let record = likely(choose, slots, keys, weights);
+    whole(choose, record, keys, LOG_ROOM)
+}
+
+/// A batch's own record gets its members: from none to two too many, and often as many as the log has room for, or one
+/// more. Other calls stay alone.
+fn whole(choose: &mut Random, record: Record, keys: u64, room: usize) -> Vec<Record> {
+    const MOST: usize = BATCH_ROOM + 2;
+    if record.call != call::BATCH {
+        return vec![record];
+    }
+    let size = match choose.below(4) {
+        0 => choose.below(MOST + 1),
+        1 => choose.pick(&[0, BATCH_ROOM - 1, BATCH_ROOM, BATCH_ROOM + 1]),
+        2 => choose.pick(&[room, room + 1]).min(BATCH_ROOM),
+        _ => choose.below(5),
+    };
+    // One bad operation refuses all, so most batches have none.
+    let bad = choose.chance(1, 8).then(|| choose.pick(&[0, size / 2, size.saturating_sub(1)]));
+    let mut turn = vec![Record { amount: size as u64, ..record }];
+    turn.extend((0..size).map(|at| append(choose, keys, Some(at) != bad)));
+    turn
+}
+
+/// An append whose operation is good, or is not.
+fn append(choose: &mut Random, keys: u64, good: bool) -> Record {
+    loop {
+        let record = Record { call: call::APPEND, ..likely(choose, SLOTS, keys, &NO_WEIGHTS) };
+        if Operation::of(record).is_good() == good {
+            return record;
+        }
+    }
+}
+
+/// Rows of appends become batches.
+fn batched(choose: &mut Random, records: &[Record]) -> Vec<Record> {
+    let mut made = Vec::new();
+    for row in records.chunk_by(|one, two| one.call == call::APPEND && two.call == call::APPEND) {
+        for part in row.chunks(1 + choose.below(BATCH_ROOM)) {
+            if row[0].call == call::APPEND {
+                made.push(Record::batch(part.len() as u64));
+            }
+            made.extend(part);
+        }
+    }
+    made
 }
 
 /// Handles come and go in a slot or two, with publishes between.
@@ -107,11 +162,11 @@ fn weights(choose: &mut Random) -> Weights {
 
 fn records(choose: &mut Random) -> Vec<Record> {
     match choose.below(20) {
-        0 => (0..choose.below(60)).map(|_| wild(choose)).collect(),
+        0 => (0..choose.below(60)).flat_map(|_| wild(choose)).collect(),
         1 if choose.chance(1, 6) => full(choose),
         1 | 2 => {
             let weights = weights(choose);
-            (0..choose.below(200)).map(|_| likely(choose, 4, 5, &weights)).collect()
+            (0..choose.below(200)).flat_map(|_| turn(choose, 4, 5, &weights)).collect()
         }
         style => {
             // What the rules refuse is mostly left out, so that the machine gets far.
@@ -122,6 +177,7 @@ fn records(choose: &mut Random) -> Vec<Record> {
                 // Enough to fill the log and the table.
                 (length, keys) = (1000 + choose.below(3000), choose.pick(&[8, 400, 700]));
                 weights[at(call::APPEND)] = choose.pick(&[100, 300, 2000]);
+                weights[at(call::BATCH)] = choose.pick(&[0, 5, 50]);
                 weights[at(call::LOOK_UP)] = 20;
                 weights[at(call::TAKE)] = 0;
             }
@@ -137,11 +193,12 @@ fn records(choose: &mut Random) -> Vec<Record> {
                     _ if churned => churn(choose),
                     _ => likely(choose, slots, keys, &weights),
                 };
-                let answer = machine.call(&record).answer;
+                let turn = whole(choose, record, keys, LOG_ROOM - machine.log.len());
+                let answer = machine.call(&mut turn.iter().copied()).answer;
                 // A refused call changes nothing, so leaving it out changes nothing after it; nor does a held step.
                 let nothing = (answer::LENGTH..=answer::HELD).contains(&answer) && record.call != call::RUN;
                 if !nothing || choose.chance(1, 10) {
-                    kept.push(record);
+                    kept.extend(turn);
                 }
             }
             kept
@@ -172,6 +229,9 @@ fn full(choose: &mut Random) -> Vec<Record> {
     }
     records.extend([publish, run, Record::on(1, call::ENTER), Record::on(1, call::GO_ON)]);
     records.extend((0..keys).map(|at| Record { key: at.wrapping_mul(spread), ..Record::on(1, call::LOOK_UP) }));
+    if choose.chance(1, 2) {
+        records = batched(choose, &records);
+    }
     records
 }
 
@@ -203,6 +263,24 @@ fn end(choose: &mut Random) -> Record {
     }
 }
 
+/// A batch that asks for too many, has a member that is no append, or is cut at one of its records.
+fn break_batch(choose: &mut Random, records: &mut Vec<Record>) {
+    let batches: Vec<usize> = (0..records.len()).filter(|&at| records[at].call == call::BATCH).collect();
+    if batches.is_empty() {
+        return;
+    }
+    let own = choose.pick(&batches);
+    let size = records[own].amount as usize;
+    let member = own + choose.below(size + 1);
+    match choose.below(5) {
+        0 => records[own].amount = choose.pick(&[TOP, TOP - 1, 1 << 63, 1 << 62, 1 << 32, records.len() as u64]),
+        1 => records[own].amount += 1,
+        2 if member > own => records[member] = Record::batch(choose.word() % 3),
+        3 if member > own => records[member].call = choose.pick(&CHURN),
+        _ => records.truncate(member + 1),
+    }
+}
+
 /// A file that is refused, mostly; two damages may show which comes first.
 fn damage(choose: &mut Random, case: &mut Case) {
     match choose.below(6) {
@@ -224,17 +302,23 @@ fn damage(choose: &mut Random, case: &mut Case) {
 
 pub fn case(choose: &mut Random) -> Case {
     let damaged = choose.chance(1, 6);
-    let records = if damaged {
-        let weights = NO_WEIGHTS;
-        (0..choose.below(6)).map(|_| likely(choose, 3, 3, &weights)).collect()
+    let mut records = if damaged {
+        let mut weights = NO_WEIGHTS;
+        weights[at(call::APPEND)] = 3;
+        weights[at(call::BATCH)] = 10;
+        (0..choose.below(6)).flat_map(|_| turn(choose, 3, 3, &weights)).collect()
     } else {
         records(choose)
     };
+    let broken = damaged && choose.chance(1, 2);
+    if broken {
+        break_batch(choose, &mut records);
+    }
     let spare = choose.pick(&[0, 0, 1, ENTRY - 1, ENTRY, 100]);
-    let mut case =
-        Case { bytes: common::schedule(&records), room: records.len() * ENTRY + spare, shift: choose.below(8) };
+    let room = turns(&records).len() * ENTRY + spare;
+    let mut case = Case { bytes: common::schedule(&records), room, shift: choose.below(8) };
     if damaged {
-        for _ in 0..1 + choose.below(2) {
+        for _ in broken as usize..1 + choose.below(2) {
             damage(choose, &mut case);
         }
         if choose.chance(1, 40) {

@@ -87,6 +87,19 @@ fn damaged() {
 
 #[test]
 #[cfg_attr(not(proved), ignore = "no static library of the proved player")]
+fn batches() {
+    // The member gets no entry, and wants no room for one.
+    let mut records = FIRST.to_vec();
+    records.insert(1, Record::batch(1));
+    played(&schedule(&records), WRITTEN, done(&VALUES));
+    refused(&schedule(&records), WRITTEN - 1, file::SHORT_OUTPUT);
+    refused(&schedule(&records[..2]), WRITTEN, file::BAD_CALL);
+    records[1].amount = u64::MAX;
+    refused(&schedule(&records), WRITTEN, file::BAD_CALL);
+}
+
+#[test]
+#[cfg_attr(not(proved), ignore = "no static library of the proved player")]
 fn long() {
     const LENGTH: usize = 100_000;
     let (mut records, mut values) = (FIRST.to_vec(), VALUES.to_vec());

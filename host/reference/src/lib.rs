@@ -12,8 +12,8 @@ use common::answer::{
 use common::file::{BAD_CALL, BAD_MARK, BAD_VERSION, PLAYED, SHORT_OUTPUT, TORN};
 use common::kind::{ADD, CLEAR, DROP};
 use common::{
-    call, Record, Reply, ENTRY, GUARDS, HEADER, HEAD_WORDS, LOG_ROOM, LOG_WORDS, MARK, OPERATION_WORDS, PAIRS,
-    PAIR_WORDS, RECORD, SLOTS, VERSION, WORDS,
+    call, Record, Reply, BATCH_ROOM, ENTRY, GUARDS, HEADER, HEAD_WORDS, LOG_ROOM, LOG_WORDS, MARK, OPERATION_WORDS,
+    PAIRS, PAIR_WORDS, RECORD, SLOTS, VERSION, WORDS,
 };
 use std::collections::VecDeque;
 
@@ -37,6 +37,10 @@ pub struct Operation {
 }
 
 impl Operation {
+    pub fn of(append: Record) -> Operation {
+        Operation { kind: append.kind, key: append.key, amount: append.amount }
+    }
+
     pub fn is_good(&self) -> bool {
         match self.kind {
             ADD => self.amount >= 1,
@@ -424,23 +428,33 @@ impl Machine {
     }
 
     pub fn append(&mut self, operation: Operation) -> Reply {
+        self.extend(&[operation])
+    }
+
+    /// A batch: all of it is taken, or none. Inlined, so that an append costs no more for being a batch of one.
+    #[inline(always)]
+    pub fn extend(&mut self, operations: &[Operation]) -> Reply {
         if self.phase == Phase::Gone {
             return only(GONE);
         }
-        if !operation.is_good() {
+        if operations.len() > BATCH_ROOM || !operations.iter().all(Operation::is_good) {
             return only(OPERATION);
         }
         if let Err(refused) = self.writer_free() {
             return refused;
         }
         if self.first {
-            // No reader has ever been in the write copy. The crate enters and leaves its own handle meanwhile.
-            self.copies[1 - self.pointer].apply(operation);
+            // No reader has ever been in the write copy. The crate enters and leaves its own handle meanwhile, once.
+            for &operation in operations {
+                self.copies[1 - self.pointer].apply(operation);
+            }
             self.slots[0].epoch = self.slots[0].epoch.wrapping_add(2);
-        } else if self.log.len() == LOG_ROOM {
+        } else if self.log.len() + operations.len() > LOG_ROOM {
             return only(LOG_FULL);
         } else {
-            self.log.push_back(operation);
+            for &operation in operations {
+                self.log.push_back(operation);
+            }
         }
         done(0)
     }
@@ -673,8 +687,10 @@ impl Machine {
 // Schedules
 
 impl Machine {
-    pub fn call(&mut self, record: &Record) -> Reply {
-        let Record { call, slot, guard, kind, key, amount } = *record;
+    /// The first record's call. A batch goes through its members too.
+    pub fn call(&mut self, records: &mut impl Iterator<Item = Record>) -> Reply {
+        let record = records.next().expect("a record");
+        let Record { call, slot, guard, key, amount, .. } = record;
         match call {
             call::CREATE => self.create(),
             call::DROP => self.drop_handle(slot),
@@ -683,16 +699,38 @@ impl Machine {
             call::RELEASE => self.release(slot, guard),
             call::LOOK_UP => self.look_up(slot, guard, key),
             call::WAS_DROPPED => self.was_dropped(slot),
-            call::APPEND => self.append(Operation { kind, key, amount }),
+            call::APPEND => self.append(Operation::of(record)),
             call::PUBLISH => self.publish(),
             call::TRY => self.try_publish(),
             call::FLUSH => self.flush(),
             call::TAKE => self.take(),
             call::STEP => self.step(),
             call::RUN => self.run(),
+            call::BATCH => {
+                let members: Vec<Operation> = records.take(amount as usize).map(Operation::of).collect();
+                self.extend(&members)
+            }
             _ => unreachable!("the file is checked before it is played"),
         }
     }
+}
+
+/// How many entries these records have. Else the place of the first that is refused: its call is none, or it is a batch
+/// that is not followed by as many appends as it asks for.
+fn entries(records: &[u8]) -> Result<usize, usize> {
+    let (mut entries, mut place) = (0, 0);
+    let mut rest = records.chunks_exact(RECORD);
+    while let Some(record) = rest.next() {
+        let called = (call::FIRST..=call::LAST).contains(&record[0]);
+        let members = if record[0] == call::BATCH { Record::from_bytes(record).amount } else { 0 };
+        let short = members > rest.len() as u64;
+        if !called || short || rest.by_ref().take(members as usize).any(|member| member[0] != call::APPEND) {
+            return Err(place);
+        }
+        entries += 1;
+        place += 1 + members as usize;
+    }
+    Ok(entries)
 }
 
 /// Plays a schedule from a fresh machine: the answer, and how many bytes of `out` were written.
@@ -708,17 +746,17 @@ pub fn play(schedule: &[u8], out: &mut [u8]) -> (u64, u64) {
     if records.len() % RECORD != 0 {
         return (TORN, 0);
     }
-    if records.chunks_exact(RECORD).any(|record| !(call::FIRST..=call::LAST).contains(&record[0])) {
+    let Ok(entries) = entries(records) else {
         return (BAD_CALL, 0);
-    }
-    let written = records.len() / RECORD * ENTRY;
+    };
+    let written = entries * ENTRY;
     if out.len() < written {
         return (SHORT_OUTPUT, 0);
     }
     let mut machine = Machine::fresh();
-    for (record, entry) in records.chunks_exact(RECORD).zip(out.chunks_exact_mut(ENTRY)) {
-        let reply = machine.call(&Record::from_bytes(record));
-        entry.copy_from_slice(&reply.to_bytes());
+    let mut records = records.chunks_exact(RECORD).map(Record::from_bytes);
+    for entry in out[..written].chunks_exact_mut(ENTRY) {
+        entry.copy_from_slice(&machine.call(&mut records).to_bytes());
     }
     (PLAYED, written as u64)
 }

@@ -13,6 +13,11 @@ fn drop_key(key: u64) -> Operation {
     Operation { kind: DROP, key, amount: 0 }
 }
 
+/// So many operations, each of a key of its own.
+fn adds(count: usize) -> Vec<Operation> {
+    (0..count as u64).map(|key| add(key, 1)).collect()
+}
+
 const WIPE: Operation = Operation { kind: CLEAR, key: 0, amount: 0 };
 
 fn says(answer: u8, value: u64) -> Reply {
@@ -51,8 +56,9 @@ fn first_case() -> Machine {
     }
     assert_eq!(out[WRITTEN..], [0xaa; 7]);
     let mut m = Machine::fresh();
-    for (record, value) in records.iter().zip(values) {
-        assert_eq!(m.call(record), says(DONE, value));
+    let mut records = records.into_iter();
+    for value in values {
+        assert_eq!(m.call(&mut records), says(DONE, value));
     }
     m
 }
@@ -268,6 +274,75 @@ fn the_log_fills_after_the_first_publish() {
 }
 
 #[test]
+fn a_batch_has_room_for_64() {
+    assert_eq!(BATCH_ROOM, 64);
+    for first in [true, false] {
+        let mut m = Machine::fresh();
+        if !first {
+            published(&mut m);
+        }
+        assert_eq!(m.extend(&adds(65)), says(OPERATION, 0));
+        assert_eq!((m.copies[RIGHT].used(), m.log.len(), m.slots[0].epoch), (0, 0, 0));
+        assert_eq!(m.extend(&adds(64)), says(DONE, 0));
+        let taken = if first { (64, 0, 2) } else { (0, 64, 0) };
+        assert_eq!((m.copies[RIGHT].used(), m.log.len(), m.slots[0].epoch), taken);
+    }
+}
+
+#[test]
+fn a_batch_that_the_log_cannot_hold() {
+    let mut m = Machine::fresh();
+    published(&mut m);
+    for size in [64, 64, 64, 8] {
+        assert_eq!(m.extend(&adds(size)), says(DONE, 0));
+    }
+    let before = m.log_words();
+    assert_eq!(m.extend(&adds(57)), says(LOG_FULL, 0));
+    assert_eq!(m.log_words(), before);
+    assert_eq!(m.extend(&adds(56)), says(DONE, 0));
+    assert_eq!(m.log.len(), 256);
+    // Full, there is room for nothing, and a bad operation is still 5.
+    assert_eq!(m.extend(&[]), says(DONE, 0));
+    assert_eq!(m.append(add(1, 1)), says(LOG_FULL, 0));
+    assert_eq!(m.append(add(1, 0)), says(OPERATION, 0));
+    assert_eq!(m.extend(&adds(65)), says(OPERATION, 0));
+    assert_eq!(m.log.len(), 256);
+}
+
+#[test]
+fn a_bad_operation_leaves_the_others_out() {
+    let bad = add(8, 0);
+    for operations in [[add(7, 3), bad], [bad, add(7, 3)]] {
+        let mut m = Machine::fresh();
+        assert_eq!(m.extend(&operations), says(OPERATION, 0));
+        assert_eq!((m.copies[RIGHT].view(), m.slots[0].epoch), (&[0, 0][..], 0));
+        published(&mut m);
+        assert_eq!(m.extend(&operations), says(OPERATION, 0));
+        assert!(m.log.is_empty());
+    }
+}
+
+#[test]
+fn a_batch_is_its_operations_in_order() {
+    let operations = [add(7, 3), drop_key(7), add(8, 1), WIPE, add(9, 1), add(9, 2)];
+    let mut m = Machine::fresh();
+    m.extend(&operations);
+    assert_eq!(m.copies[RIGHT].view(), [1, 0, 9, 3]);
+
+    let (mut one, mut by_one) = (Machine::fresh(), Machine::fresh());
+    for m in [&mut one, &mut by_one] {
+        published(m);
+    }
+    one.extend(&operations);
+    for operation in operations {
+        by_one.append(operation);
+    }
+    assert_eq!(one.log, by_one.log);
+    assert_eq!(published(&mut one), says(DONE, steps::PUBLISH + 1 + 6));
+    assert_eq!(one.copies[LEFT].view(), [1, 0, 9, 3]);
+}
+
+#[test]
 fn take_after_the_first_publish_with_an_empty_log() {
     let mut m = Machine::fresh();
     m.append(add(7, 3));
@@ -362,6 +437,20 @@ fn while_first_only_slot_0_notices_an_append() {
     m.append(add(1, 1));
     assert_eq!(m.slots[0].epoch, 0);
     assert_eq!(m.log.len(), 1);
+}
+
+#[test]
+fn while_first_slot_0_notices_a_batch_once() {
+    let mut m = Machine::fresh();
+    for (size, epoch) in [(3, 2), (0, 4), (64, 6), (1, 8)] {
+        assert_eq!(m.extend(&adds(size)), says(DONE, 0));
+        assert_eq!(m.slots[0].epoch, epoch);
+    }
+    published(&mut m);
+    for size in [3, 0] {
+        assert_eq!(m.extend(&adds(size)), says(DONE, 0));
+        assert_eq!((m.slots[0].epoch, m.log.len()), (8, 3));
+    }
 }
 
 #[test]
@@ -493,6 +582,33 @@ fn the_smallest_refusal_wins() {
 }
 
 #[test]
+fn which_refusal_a_batch_gets() {
+    let (good, empty) = (adds(2), adds(0));
+    let bad = [adds(65), vec![add(1, 1), add(7, 0)]];
+    let mut m = Machine::fresh();
+    let all = |m: &mut Machine, fit: u8, unfit: u8| {
+        for operations in [&good, &empty] {
+            assert_eq!(m.extend(operations), says(fit, 0));
+        }
+        for operations in &bad {
+            assert_eq!(m.extend(operations), says(unfit, 0));
+        }
+    };
+    all(&mut m, DONE, OPERATION);
+    m.enter(0);
+    all(&mut m, NOT_NOW, OPERATION);
+    m.go_on(0);
+    all(&mut m, GUARDS_OPEN, OPERATION);
+    m.release(0, 0);
+    m.publish();
+    all(&mut m, NOT_NOW, OPERATION);
+    m.run();
+    m.take();
+    m.run();
+    all(&mut m, GONE, GONE);
+}
+
+#[test]
 fn four_guards_come_before_null() {
     let mut m = Machine::fresh();
     m.create();
@@ -539,4 +655,71 @@ fn refused_files() {
     let mut out = [0x55; WRITTEN + 2];
     assert_eq!(play(&good, &mut out), (PLAYED, WRITTEN as u64));
     assert_eq!(out[WRITTEN..], [0x55, 0x55]);
+}
+
+/// A schedule of which some records get an entry, with its replies.
+fn plays(records: &[Record], replies: &[Reply]) {
+    let bytes = schedule(records);
+    let wanted: Vec<u8> = replies.iter().flat_map(|reply| reply.to_bytes()).collect();
+    assert_eq!(entries(&bytes[HEADER..]), Ok(replies.len()));
+    let mut out = vec![0x55; wanted.len() + 3];
+    assert_eq!(play(&bytes, &mut out), (PLAYED, wanted.len() as u64));
+    assert_eq!(out, [&wanted[..], &[0x55; 3]].concat());
+    // Entries want room, and not records.
+    assert_eq!(play(&bytes, &mut out[..wanted.len()]), (PLAYED, wanted.len() as u64));
+    assert_eq!(play(&bytes, &mut out[..wanted.len() - 1]), (SHORT_OUTPUT, 0));
+}
+
+#[test]
+fn batches_in_schedules() {
+    let (append, publish, run) = (Record::append(ADD, 7, 3), Record::of(call::PUBLISH), Record::of(call::RUN));
+    let members = |size: usize| [vec![Record::batch(size as u64)], vec![append; size]].concat();
+    let done = says(DONE, 0);
+    plays(&members(0), &[done]);
+    plays(&members(64), &[done]);
+    plays(&members(65), &[says(OPERATION, 0)]);
+    plays(&[members(100), vec![run]].concat(), &[says(OPERATION, 0), says(NOT_NOW, 0)]);
+    plays(&[members(1), members(0), vec![append], members(2)].concat(), &[done; 4]);
+    // What the batch does not use is ignored, and so is what an append does not use.
+    let odd = Record { slot: 99, guard: 98, kind: 97, key: 96, ..Record::batch(1) };
+    plays(
+        &[odd, Record { slot: 77, guard: 66, ..append }, publish, run],
+        &[done, done, says(DONE, steps::FIRST_PUBLISH)],
+    );
+    // Its members are operations, of which one may be bad.
+    plays(&[Record::batch(2), append, Record::append(ADD, 7, 0), append], &[says(OPERATION, 0), done]);
+    let gone = [done, says(DONE, 1 + steps::FIRST_PUBLISH + steps::TAKE_END), says(GONE, 0)];
+    plays(&[vec![Record::of(call::TAKE), run], members(65)].concat(), &gone);
+}
+
+#[test]
+fn batches_that_refuse_a_file() {
+    let (create, append) = (Record::of(call::CREATE), Record::append(ADD, 7, 3));
+    let at_the_batch = |records: &[Record]| {
+        let place = records.iter().position(|record| record.call == call::BATCH).unwrap();
+        let bytes = schedule(records);
+        assert_eq!(entries(&bytes[HEADER..]), Err(place));
+        assert_eq!(play(&bytes, &mut []), (BAD_CALL, 0));
+        assert_eq!(play(&bytes[..bytes.len() - 1], &mut []), (TORN, 0));
+    };
+    // Too few are left: of any batch that is cut at any of its records, and of any file where so many are wanted.
+    for size in [1, 2, 64, 65, 100] {
+        for left in 0..size {
+            at_the_batch(&[vec![create, Record::batch(size as u64)], vec![append; left]].concat());
+        }
+    }
+    for amount in [3, 1 << 32, 1 << 62, TOP / RECORD as u64, TOP / 2 + 2, TOP - 1, TOP] {
+        at_the_batch(&[append, Record::batch(amount), append, append]);
+    }
+    // One of them is no append.
+    for call in (0..=u8::MAX).filter(|&call| call != call::APPEND) {
+        for place in 2..5 {
+            let mut records = [create, Record::batch(3), append, append, append, append];
+            records[place].call = call;
+            at_the_batch(&records);
+        }
+    }
+    // A call that is none is found at its own place, behind a batch too.
+    let records = [Record::batch(1), append, Record::of(call::LAST + 1)];
+    assert_eq!(entries(&schedule(&records)[HEADER..]), Err(2));
 }

@@ -6,14 +6,15 @@ use native.Mathlib.Omega.{arith}
 use lib.ListN.{length, drop}
 use Rattle.write.specs.World.{World}
 use Rattle.format.specs.declared.Flaw.{Flaw}
-use Rattle.format.specs.Schedule.{flawOf}
+use Rattle.format.specs.Schedule.{headBytes, count, entriesIn, flawOf}
+use Rattle.format.proofs.Units.{units-fewer}
 use Rattle.play.specs.Schedule.{callsIn}
 use Rattle.play.specs.Player.{transcript}
 use Rattle.play.proofs.Lengths.{part-length, part-written, part-bytes, fresh-world, fresh-whole}
-use Rattle.format.proofs.Records.{flawless-within}
+use Rattle.format.proofs.Records.{flawless}
 use Rattle.play.proofs.Rule.{play-flawed, play-short, play-made}
 use borrow.Author.Needs.{needs}
-use Rattle.table.proofs.Needs.{all2, all4}
+use Rattle.table.proofs.Needs.{all4}
 use borrow.Rule.Slice.PartAt.{part-to-end}
 use Rattle.play.proofs.lrt_play.Statement.{statement}
 use Rattle.play.proofs.lrt_play.Tie as tie
@@ -24,7 +25,17 @@ sound c = ap (λ (f : Flaw). f .answer) (sym (c .before .before .check .ensures)
 
 -- so it has its head
 long : (t : tie.After-fresh-state) → 5 ≤ length (t .before .before .before .before .before .before .before .before .args .schedule .now)
-long t = omega (arith, flawless-within (t .before .before .before .before .before .before .before .before .args .schedule .now) (sound (t .before .before .before)))
+long t = omega (arith, flawless (t .before .before .before .before .before .before .before .before .args .schedule .now) (sound (t .before .before .before)) .whole)
+
+-- how many entries it will have
+entries : (c : tie.Else1) → c .before .before .check .result .entries ≡ entriesIn (c .before .before .before .before .before .args .schedule .now)
+entries c = ap (λ (f : Flaw). f .entries) (c .before .before .check .ensures) ∙ flawless (c .before .before .before .before .before .args .schedule .now) (sound c) .entries
+
+mul-if2 : tie.Need-mul-if2
+mul-if2 c =
+    let e = c .before in
+    let s = e .before .before .before .before .before .args .schedule .now in
+    omega (arith, entries e, units-fewer s headBytes 0 (count s), e .before .before .before .before .before .good)
 
 returns : tie.Need-returns
 returns c =
@@ -34,7 +45,7 @@ returns c =
 returns-2 : tie.Need-returns-2
 returns-2 c =
     let a = c .before .before .before .before .before .before .before .args in
-    play-short (a .schedule .now) (a .out .now) (sound (c .before .before)) (omega (arith, c .if2 .taken, c .before .count .ensures))
+    play-short (a .schedule .now) (a .out .now) (sound (c .before .before)) (omega (arith, c .if2 .taken, entries (c .before .before)))
 
 sub-play-on : tie.Need-sub-play-on
 sub-play-on c = long c
@@ -48,7 +59,7 @@ play-on-requires c κs =
     let a = t .before .before .before .before .before .before .before .before .args in
     let s = a .schedule .now in
     let fit : (b : List ℕ) → b ≡ drop 5 s → (w : World) → length (transcript (callsIn b) w) ≤ length (a .out .now) =
-    λ b p w. omega (arith, part-length s p w, t .before .if2 .left, t .before .before .count .ensures) in
+    λ b p w. omega (arith, part-length s p w, t .before .if2 .left, entries (t .before .before .before)) in
     (fresh-whole (t .fresh-state .ensures), fit _ (part-to-end s 5) _)
 
 returns-3 : tie.Need-returns-3
@@ -59,9 +70,9 @@ returns-3 c =
     let s = a .schedule .now in
     let w = fresh-world (t .fresh-state .ensures) in
     play-made s (a .out .now) (sound (t .before .before .before)) (part-written s (part-to-end s 5) _ (p .ensures .0))
-    (omega (arith, t .before .if2 .left, t .before .before .count .ensures))
+    (omega (arith, t .before .if2 .left, entries (t .before .before .before)))
     (p .ensures .1 ∙ part-bytes s (part-to-end s 5) (a .out .now) w)
 
 pub lrt-play-spec : {M : Type 1} → statement M
 lrt-play-spec =
-    tie.close (all4 (all2 (tie.spec (λ c κs. search needs) returns) (omega arith) returns-2 (λ c κs. search needs) sub-play-on part-play-on-start) (omega arith) play-on-requires (λ c. search needs) returns-3)
+    tie.close (all4 (tie.spec (λ c κs. search needs) returns mul-if2 returns-2 (λ c κs. search needs) sub-play-on part-play-on-start) (omega arith) play-on-requires (λ c. search needs) returns-3)

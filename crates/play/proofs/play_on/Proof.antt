@@ -1,7 +1,7 @@
 -- Before a record the output holds the entries of those before it, and the rest gives what is missing (`Plays`). Before a step its call is
 -- on its way (`Going`), and before a slot that a create may pass its search ends where it would from the first. Each way through the
 -- body is one law.
-use Prim.Native.Nat.{_-_, _<_}
+use Prim.Native.Nat.{ℕ, suc, _+_, _-_, _*_, _≤_, _<_, min}
 use mathlib.Core.Path.{_≡_, sym, ap, subst, _∙_}
 use mathlib.Core.Logic.{⊎-elim}
 use native.Mathlib.Omega.{arith}
@@ -11,31 +11,31 @@ use lib.ListN.{length, getD, length-map}
 use Rattle.read.specs.declared.Slot.{Slot}
 use Rattle.read.specs.Machine.{slotTotal, slotCount, noSlot, place}
 use Rattle.write.specs.Call.{Call}
-use Rattle.write.specs.Numbers.{slotOf}
-use Rattle.play.specs.Turns.{isRunning}
+use Rattle.format.specs.Schedule.{recordBytes}
+use Rattle.play.specs.Turns.{membersOf, meantAt, named, isRunning}
 use Rattle.write.specs.Machine.{callOn, callRule}
 use Rattle.write.specs.World.{played}
 use Rattle.write.proofs.NeverBroken.{Sound}
 use Rattle.write.proofs.Turns.{place-below}
 use Rattle.format.proofs.Bytes.{put-entry}
-use Rattle.play.specs.Schedule.{decoded, callsIn}
+use Rattle.play.specs.Schedule.{opsFrom, decoded, callsIn}
 use Rattle.play.specs.Player.{transcript, machine}
 use Rattle.play.proofs.Turned.{sought, passes-below, sought-next, sought-here, within-below, read-slot}
 use Rattle.play.proofs.Going.{Said, Goes, Going, going-begins, going-steps, sound-after, next-slot, said-as, ahead, ahead-less}
-use Rattle.play.proofs.Plays.{Plays, plays-start, plays-record, plays-room, plays-next, plays-end, plays-reached, sound-judged, turn-said}
+use Rattle.play.proofs.Plays.{Plays, remain, next, plays-start, plays-record, plays-room, plays-next, plays-end, plays-reached, sound-judged, turn-said}
 use Rattle.play.proofs.play_on.Statement.{statement}
 use Rattle.play.proofs.play_on.Tie as tie
 use Rattle.read.proofs.Cases.{stateOf}
 
 abbrev Inv-loop2 : tie.InvT-loop2
 Inv-loop2 s out left₀ right₀ log₀ c₀ slots₀ snaps₀ end from to call far₀ k₀ left right log c slots snaps far k =
-    Going (callOn call (stateOf c₀ slots₀ snaps₀) left₀ right₀ log₀) (isRunning call) far c slots snaps left right log × (k ≡ place (c .phase))
+    Going (callOn (meantAt s from call) (stateOf c₀ slots₀ snaps₀) left₀ right₀ log₀) (isRunning call) far c slots snaps left right log × (k ≡ place (c .phase))
 
 abbrev μ-loop2 : tie.MeasureT-loop2
 μ-loop2 s out left₀ right₀ log₀ c₀ slots₀ snaps₀ end from to call far₀ k₀ left right log c slots snaps far k = ahead far c
 
 abbrev Inv-loop3 : tie.InvT-loop3
-Inv-loop3 s out left right log c slots snaps end from to call i₀ i = sought call slots i ≡ sought call slots (slotOf call)
+Inv-loop3 s out left right log c slots snaps end from to call i₀ i = sought call slots i ≡ sought call slots (named call)
 
 abbrev μ-loop3 : tie.MeasureT-loop3
 μ-loop3 s out left right log c slots snaps end from to call i₀ i = slotTotal - i
@@ -68,7 +68,8 @@ going : (c : tie.In-loop2 Inv-loop2 μ-loop2 Inv-loop3 μ-loop3 Inv-loop μ-loop
     (let v = c .before .loop2 in
     let b = c .before .before .before .before .before .before .before .before .before .before .loop in
     let k = c .before .before .before .before .before .before .before .before .decode .result in
-    Goes (callOn k (stateOf (b .c) (b .slots) (b .snaps)) (b .left) (b .right) (b .log)) (isRunning k) (v .far .value) (v .c) (v .slots) (v .snaps) (v .left) (v .right) (v .log))
+    let s = c .before .before .before .before .before .before .before .before .before .before .before .before .before .before .before .before .before .before .before .args .s .now in
+    Goes (callOn (meantAt s (b .from) k) (stateOf (b .c) (b .slots) (b .snaps)) (b .left) (b .right) (b .log)) (isRunning k) (v .far .value) (v .c) (v .slots) (v .snaps) (v .left) (v .right) (v .log))
 going c = c .before .loop2 .inv .0 .goes (c .loop2-test .taken)
 
 own : (c : tie.In-loop2 Inv-loop2 μ-loop2 Inv-loop3 μ-loop3 Inv-loop μ-loop) (d : Slot) → (let v = c .before .loop2 in getD (v .slots) (v .k) d ≡ getD (v .slots) (v .k) noSlot)
@@ -95,19 +96,20 @@ says : (j : tie.Joined1 Inv-loop2 μ-loop2 Inv-loop3 μ-loop3 Inv-loop μ-loop) 
     Said (callOn (decoded s (v .from)) (stateOf (v .c) (v .slots) (v .snaps)) (v .left) (v .right) (v .log)) (f .far) (f .c) (f .slots) (f .snaps) (f .left) (f .right) (f .log))
 says j =
     let v = j .before .before .before .before .before .loop in
+    let s = j .before .before .before .before .before .before .before .before .before .before .before .before .before .before .args .s .now in
     let d = j .before .before .before .decode in
     let f = j .if1 in
     let p = j .before .is-going .ensures in
     subst
     (λ (k : Call). Said (callOn k (stateOf (v .c) (v .slots) (v .snaps)) (v .left) (v .right) (v .log)) (f .far) (f .c) (f .slots) (f .snaps) (f .left) (f .right) (f .log))
-    (d .ensures)
+    (d .ensures .1)
     (⊎-elim
     (λ w. said-as (w .4 .inv .0 .ends (w .5 .left)) (w .6) (w .7) (w .8) (w .9) (w .10) (w .11) (w .12))
     (λ w.
-    let s = read-slot (v .slots) _ (v .inv .sound .slots) (within-below (w .2 .i)) in
-    let q = sought-here (v .slots) (w .2 .i) s (d .result) (sym (w .4 .ensures) ∙ w .5 .left) in
+    let own = read-slot (v .slots) _ (v .inv .sound .slots) (within-below (w .2 .i)) in
+    let q = sought-here (v .slots) (w .2 .i) own (d .result) (sym (w .4 .ensures) ∙ w .5 .left) in
     said-as
-    (turn-said (d .result) (sym p ∙ w .0 .left) (v .c) (v .slots) (v .snaps) (v .left) (v .right) (v .log) (sym q ∙ w .2 .inv)
+    (turn-said (opsFrom s (v .from + recordBytes) (membersOf (d .result))) (d .result) (sym p ∙ w .0 .left) (v .c) (v .slots) (v .snaps) (v .left) (v .right) (v .log) (sym q ∙ w .2 .inv)
     (read-slot (v .slots) _ (v .inv .sound .slots) (within-below (w .2 .i))) (w .10 .ensures))
     (w .20) (w .21) (w .22) (w .23) (w .24) (w .25) (w .26 ∙ w .19 .ensures))
     (f .came))
@@ -131,8 +133,9 @@ array-read-facing c = placed (c .before)
 loop2-holds : tie.Need-loop2-holds Inv-loop2 μ-loop2 Inv-loop3 μ-loop3 Inv-loop μ-loop
 loop2-holds c =
     let f = c .before .before in
-    let v = f .before .before .before .before .before .before .loop in (
-      going-begins (f .before .before .before .before .decode .result) (sym (f .before .before .is-going .ensures) ∙ f .before .if1 .taken) (v .c) (v .slots) (v .snaps) (v .left) (v .right) (v .log)
+    let v = f .before .before .before .before .before .before .loop in
+    let s = f .before .before .before .before .before .before .before .before .before .before .before .before .before .before .before .args .s .now in (
+      going-begins (opsFrom s (v .from + recordBytes) (membersOf (f .before .before .before .before .decode .result))) (f .before .before .before .before .decode .result) (sym (f .before .before .is-going .ensures) ∙ f .before .if1 .taken) (v .c) (v .slots) (v .snaps) (v .left) (v .right) (v .log)
           (v .inv .sound) (f .place .ensures) (read-slot (v .slots) _ (v .inv .sound .slots) (placed f))
           (c .facing .ensures),
       f .place .ensures,
@@ -206,20 +209,38 @@ mul-turn c = omega (arith, within-below (c .before .before .before .loop3 .i))
 mul-slots-2 : tie.Need-mul-slots-2 Inv-loop2 μ-loop2 Inv-loop3 μ-loop3 Inv-loop μ-loop
 mul-slots-2 c = omega (arith, within-below (c .before .before .before .before .before .before .before .before .before .before .before .before .before .before .before .loop3 .i))
 
-add-from : tie.Need-add-from Inv-loop2 μ-loop2 Inv-loop3 μ-loop3 Inv-loop μ-loop
-add-from c = omega (arith, plays-record (c .before .before .before .before .before .before .before .before .before .loop .inv) (c .before .before .before .before .before .before .before .before .loop-test .taken))
+-- a record is at hand
+whole : (c : tie.In-loop Inv-loop2 μ-loop2 Inv-loop3 μ-loop3 Inv-loop μ-loop) → c .before .loop .from + recordBytes ≤ length (c .before .before .before .before .before .before .before .before .before .before .args .s .now)
+whole c = plays-record (c .before .loop .inv) (c .loop-test .taken)
+
+turn-requires : tie.Need-turn-requires Inv-loop2 μ-loop2 Inv-loop3 μ-loop3 Inv-loop μ-loop
+turn-requires c κs = whole (c .before .before .before .before .before .before .before .before .before .before .before .before .before)
+
+behind-requires : tie.Need-behind-requires Inv-loop2 μ-loop2 Inv-loop3 μ-loop3 Inv-loop μ-loop
+behind-requires c κs = whole (c .before .before .before .before .before .before .before .before)
+
+-- where the next one begins
+there : (c : tie.After-behind Inv-loop2 μ-loop2 Inv-loop3 μ-loop3 Inv-loop μ-loop) →
+    (let i = c .before .before .before .before .before .before .before .before .before in
+    c .behind .result ≡ next (i .before .loop .inv) (i .loop-test .taken))
+there c =
+    let i = c .before .before .before .before .before .before .before .before .before in
+    let s = i .before .before .before .before .before .before .before .before .before .before .args .s .now in
+    let v = i .before .loop in
+    c .behind .ensures ∙ ap (λ (m : ℕ). v .from + recordBytes * suc (min m (remain s (v .from) - 1))) (c .before .before .before .before .before .before .before .before .decode .ensures .0)
 
 add-to : tie.Need-add-to Inv-loop2 μ-loop2 Inv-loop3 μ-loop3 Inv-loop μ-loop
-add-to c = omega (arith, plays-room (c .before .before .before .before .before .before .before .before .before .loop .inv) (c .before .before .before .before .before .before .before .before .loop-test .taken), c .before .before .before .before .before .before .before .before .before .before .before .before .before .before .before .before .before .before .good)
+add-to c = let i = c .before .before .before .before .before .before .before .before .before in omega (arith, plays-room (i .before .loop .inv) (i .loop-test .taken), i .before .before .before .before .before .before .before .before .before .before .good)
 
 loop-less : tie.Need-loop-less Inv-loop2 μ-loop2 Inv-loop3 μ-loop3 Inv-loop μ-loop
-loop-less c = omega (arith, plays-record (c .before .before .before .before .before .before .before .before .before .loop .inv) (c .before .before .before .before .before .before .before .before .loop-test .taken))
+loop-less c = omega (arith, whole (c .before .before .before .before .before .before .before .before .before), there c)
 
 loop-again : tie.Need-loop-again Inv-loop2 μ-loop2 Inv-loop3 μ-loop3 Inv-loop μ-loop
 loop-again c =
-    let j = c .before .before .before .before in
-    plays-next (j .before .before .before .before .before .loop .inv) (j .before .before .before .before .loop-test .taken) (says j) _
-    (c .before .before .put .ensures ∙ put-entry _ _ _ _ (plays-room (j .before .before .before .before .before .loop .inv) (j .before .before .before .before .loop-test .taken)))
+    let j = c .before .before .before .before .before in
+    let i = j .before .before .before .before in
+    plays-next (i .before .loop .inv) (i .loop-test .taken) (says j) _
+    (c .before .before .before .put .ensures ∙ put-entry _ _ _ _ (plays-room (i .before .loop .inv) (i .loop-test .taken))) (there c)
 
 same-length : tie.Need-same-length Inv-loop2 μ-loop2 Inv-loop3 μ-loop3 Inv-loop μ-loop
 same-length c = c .before .loop .inv .sized
@@ -268,4 +289,4 @@ array-set-from-slots-2 c = within-below (c .before .before .before .before .befo
 
 pub play-on-spec : {M : Type 1} → statement M
 play-on-spec =
-    tie.close (all2 (all4 (tie.spec Inv-loop2 μ-loop2 Inv-loop3 μ-loop3 Inv-loop μ-loop (λ c. search needs) loop-holds) (omega arith) mul-facing array-copy-out-facing mul-facing-2 array-read-facing (λ c κs. search needs) loop2-holds mul-advance array-copy-out-advance mul-advance-2 array-read-advance (λ c κs. search needs) mul-own array-copy-out-own mul-slots array-set-from-slots mul-snaps array-write-snaps (λ c κs. search needs) mul-went-on array-copy-out-went-on mul-went-on-2 array-read-went-on went-on-requires loop2-less loop2-again (λ c κs. search needs) loop3-holds mul-passes array-copy-out-passes (λ c κs. search needs) add-i loop3-less loop3-again mul-turn array-copy-out-turn (λ c κs. search needs) mul-slots-2 array-set-from-slots-2) (omega arith) add-from add-to loop-less loop-again same-length same-length-2 same-length-3 same-length-4 returns)
+    tie.close (all2 (all4 (tie.spec Inv-loop2 μ-loop2 Inv-loop3 μ-loop3 Inv-loop μ-loop (λ c. search needs) loop-holds) (omega arith) mul-facing array-copy-out-facing mul-facing-2 array-read-facing (λ c κs. search needs) loop2-holds mul-advance array-copy-out-advance mul-advance-2 array-read-advance (λ c κs. search needs) mul-own array-copy-out-own mul-slots array-set-from-slots mul-snaps array-write-snaps (λ c κs. search needs) mul-went-on array-copy-out-went-on mul-went-on-2 array-read-went-on went-on-requires loop2-less loop2-again (λ c κs. search needs) loop3-holds mul-passes array-copy-out-passes (λ c κs. search needs) add-i loop3-less loop3-again mul-turn array-copy-out-turn turn-requires mul-slots-2 array-set-from-slots-2) (omega arith) behind-requires add-to loop-less loop-again same-length same-length-2 same-length-3 same-length-4 returns)

@@ -5,6 +5,7 @@ use mathlib.Core.List.{List}
 use Prim.Native.Nat.{ℕ}
 use denote.Ref.{now}
 use Rattle.read.specs.Calls.{Lent, lent}
+use Rattle.machine.proofs.extend.Reads as extend
 use Rattle.machine.proofs.append.Reads as append
 use Rattle.machine.proofs.step.Reads as step
 use Rattle.machine.proofs.run.Reads as run
@@ -12,6 +13,7 @@ use Rattle.machine.proofs.publish.Reads as publish
 use Rattle.machine.proofs.try_publish.Reads as try-publish
 use Rattle.machine.proofs.flush.Reads as flush
 use Rattle.machine.proofs.take.Reads as take
+use Rattle.write.proofs.begins.extend_on.Reads as extend-on
 use Rattle.write.proofs.begins.append_on.Reads as append-on
 use Rattle.write.proofs.begins.open_on.Reads as open-on
 use Rattle.write.proofs.steps.advance.Reads as advance
@@ -37,6 +39,11 @@ same {A} a b = (
 
 made-same : {A : Type 0} {x y : A} {l r g : List ℕ} {o : Lent A} → lent x l r g ≡ o → lent y l r g ≡ o → x ≡ y
 made-same a b = same a b .0
+
+extend-determined :
+    (κs : _) (a : _) (r q : _) (s t : _) → extend.Post κs a r s → extend.Post κs a q t →
+    (r ≡ q) × (now (s .1 .1 .0) ≡ now (t .1 .1 .0)) × (now (s .1 .1 .1 .0) ≡ now (t .1 .1 .1 .0)) × (now (s .1 .1 .1 .1 .0) ≡ now (t .1 .1 .1 .1 .0))
+extend-determined κs a r q s t h l = same h l
 
 append-determined :
     (κs : _) (a : _) (r q : _) (s t : _) → append.Post κs a r s → append.Post κs a q t →
@@ -64,6 +71,11 @@ flush-determined κs a r q s t h l = made-same h l
 
 take-determined : Determines take.Post
 take-determined κs a r q s t h l = made-same h l
+
+extend-on-determined :
+    (κs : _) (a : _) (r q : _) (s t : _) → extend-on.Post κs a r s → extend-on.Post κs a q t →
+    (r ≡ q) × (now (s .1 .1 .1 .1 .0) ≡ now (t .1 .1 .1 .1 .0)) × (now (s .1 .1 .1 .1 .1 .0) ≡ now (t .1 .1 .1 .1 .1 .0)) × (now (s .1 .1 .1 .1 .1 .1 .0) ≡ now (t .1 .1 .1 .1 .1 .1 .0))
+extend-on-determined κs a r q s t h l = same h l
 
 append-on-determined :
     (κs : _) (a : _) (r q : _) (s t : _) → append-on.Post κs a r s → append-on.Post κs a q t →

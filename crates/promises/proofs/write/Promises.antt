@@ -2,8 +2,9 @@
 use Prim.Native.Nat.{ℕ}
 use mathlib.Core.Path.{_≡_, refl}
 use mathlib.Core.Bool.{Bool}
-use mathlib.Core.List.{List}
-use Rattle.promises.proofs.Contracts.{typed, Words, Refs, refs, lends, κ₃, Leaves, Keeps, Keeps1, Keeps2}
+use mathlib.Core.List.{List, [], _∷_}
+use Rattle.promises.proofs.Contracts.{typed, Words, ref, Refs, refs, lends, κ₃, κ₄, Leaves, Keeps, Keeps1, Keeps2}
+use Rattle.table.specs.Order.{op}
 use Rattle.read.specs.declared.Slot.{Slot}
 use Rattle.read.specs.declared.Phase.{Phase}
 use Rattle.read.specs.declared.Control.{Control}
@@ -17,7 +18,7 @@ use Rattle.read.specs.Calls.{Lent, lent, refusal}
 use Rattle.write.specs.declared.Moved.{Moved}
 use Rattle.write.specs.declared.Opening.{Opening}
 use Rattle.write.specs.declared.Opening.the-variants.{Publish, Try, Flush, Take}
-use Rattle.write.specs.Call.{Append, Open, Step, Run}
+use Rattle.write.specs.Call.{Append, Open, Step, Run, appendOne, opsIn}
 use Rattle.write.specs.Steps.{at, polling, lastPolling, holds, stepAt}
 use Rattle.write.specs.Begins.{stepSigns, appendOn, openOn}
 use Rattle.write.specs.Machine.{callOn, callRule}
@@ -64,6 +65,14 @@ AdvancePromise f =
     Leaves (typed κ₃ proofs.steps.advance.Kinds.ps) (proofs.steps.advance.Reads.Post κ₃) (c, (s, (e, lends l r g))) (o .made)
     (c, (s, (e, refs (o .left) (o .right) (o .log))))
 
+abbrev pub ExtendOnPromise : (List ℕ → Part) → Type 0
+ExtendOnPromise f =
+    (ws : Words) (c : Control) (s : Slot) (e : ℕ) (l r g : Words) →
+    let o = f (ws .list) c s e (l .list) (r .list) (g .list) in
+    Leaves (typed κ₄ proofs.begins.extend_on.Kinds.ps) (proofs.begins.extend_on.Reads.Post κ₄)
+    (ref (ws .list), (c, (s, (e, lends l r g)))) (o .made)
+    (ref (ws .list), (c, (s, (e, refs (o .left) (o .right) (o .log)))))
+
 abbrev pub AppendOnPromise : (ℕ → ℕ → ℕ → Part) → Type 0
 AppendOnPromise f =
     (kind key amount : ℕ) (c : Control) (s : Slot) (e : ℕ) (l r g : Words) →
@@ -77,6 +86,13 @@ AppendOnPromise f =
 -- with the lent words changed
 abbrev pub Whole : Type 0
 Whole = State → List ℕ → List ℕ → List ℕ → Lent Reply
+
+abbrev pub ExtendPromise : (List ℕ → Whole) → Type 0
+ExtendPromise f =
+    (ws : Words) (st : State) (l r g : Words) →
+    let o = f (ws .list) st (l .list) (r .list) (g .list) in
+    Leaves (typed κ₄ whole.extend.Kinds.ps) (whole.extend.Reads.Post κ₄) (st, (ref (ws .list), lends l r g)) (o .made)
+    (st, (ref (ws .list), refs (o .left) (o .right) (o .log)))
 
 abbrev pub AppendPromise : (ℕ → ℕ → ℕ → Whole) → Type 0
 AppendPromise f =
@@ -130,7 +146,9 @@ begin-leaves o st l r g =
 
 pub kept :
     HoldsPromise holds × PlacePromise place × UnderwayPromise (λ c. underway (c .phase)) × AtPromise at
-    × PollingPromise polling × LastPollingPromise lastPolling × StepVerdictPromise (λ k c. smallest (stepSigns k c)) × OpenOnPromise openOn × AdvancePromise (λ c. stepAt (c .phase) c) × AppendOnPromise appendOn
-    × AppendPromise (λ kind key amount. callRule (Append kind key amount)) × StepPromise (callRule Step) × RunPromise (callRule Run)
+    × PollingPromise polling × LastPollingPromise lastPolling × StepVerdictPromise (λ k c. smallest (stepSigns k c)) × OpenOnPromise openOn × AdvancePromise (λ c. stepAt (c .phase) c)
+    × ExtendOnPromise (λ ws. appendOn (opsIn ws)) × AppendOnPromise (λ kind key amount. appendOn (op kind key amount ∷ []))
+    × ExtendPromise (λ ws. callRule (Append (opsIn ws))) × AppendPromise (λ kind key amount. callRule (appendOne kind key amount))
+    × StepPromise (callRule Step) × RunPromise (callRule Run)
     × PublishPromise (begin Publish) × TryPromise (begin Try) × FlushPromise (begin Flush) × TakePromise (begin Take)
 kept = search begin-leaves

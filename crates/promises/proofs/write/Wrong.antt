@@ -1,13 +1,14 @@
 -- Wrong programs, as definitions on the rules' values, and for each a proof that the contract's promise (`Promises`) is false of it: one
 -- call, on values that the source's types have, where what the program does wrong is read off.
-use Prim.Native.Nat.{ℕ, _+_, _-_, _%_, _^_}
+use Prim.Native.Nat.{ℕ, _+_, _-_, _*_, _%_, _^_}
 use mathlib.Core.Path.{refl}
 use mathlib.Core.Bool.{Bool, true, false, not, _&&_, _||_}
-use mathlib.Core.List.{List, [], _∷_, _++_}
+use mathlib.Core.List.{List, [], _∷_, _++_, reverse}
 use lib.Dec.{eqb, ltb, leb}
-use lib.ListN.{length, replicate}
+use lib.ListN.{length, take, replicate}
 use Rattle.table.specs.Answers.{number}
 use Rattle.table.specs.Copy.{zeros, lawful}
+use Rattle.table.specs.Order.{Op, op}
 use Rattle.table.specs.declared.Answer.the-variants as answer
 use Rattle.read.specs.declared.Slot.{Slot}
 use Rattle.read.specs.declared.Phase.{Phase}
@@ -20,14 +21,14 @@ use Rattle.read.specs.declared.Verdict.the-variants.{Admitted, Refused}
 use Rattle.read.specs.declared.State.{State}
 use Rattle.read.specs.declared.Reply.{Reply}
 use Rattle.read.specs.Machine.{standing, holding, freshControl, withReading, slotCount, logRoom, logWords, noGuards, noSlot, newSlot, underway, locks, nulls, judged, fresh, row, place}
-use Rattle.read.specs.Handles.{smallest, freed, copyOf, bit}
+use Rattle.read.specs.Handles.{smallest, freed, withDue, copyOf, bit}
 use Rattle.read.specs.Calls.{Lent, lent, slotAt, refusal}
 use Rattle.write.specs.declared.Moved.{Moved}
 use Rattle.write.specs.declared.Opening.{Opening}
 use Rattle.write.specs.declared.Opening.the-variants as opening
-use Rattle.write.specs.declared.Call.the-variants as call
-use Rattle.write.specs.Steps.{at, withLog, swappedOver, draining, polling, beginning, lastPolling, holds, moved, refused, stopped, ofLeft, ofRight, operated, logApplied, over, unlogged, stepAt}
-use Rattle.write.specs.Begins.{writerSigns, stepSigns, madeAtOnce, appendFirst, appended, appendOn, columnOf, begun, value, opened}
+use Rattle.write.specs.Call.{Run, opsIn}
+use Rattle.write.specs.Steps.{at, withLog, swappedOver, draining, polling, beginning, lastPolling, holds, moved, refused, stopped, ofLeft, ofRight, logApplied, over, unlogged, stepAt}
+use Rattle.write.specs.Begins.{writerSigns, stepSigns, batchRoom, allLawful, lawfulBatch, crowds, operatedAll, madeAtOnce, appendFirst, appended, appendOn, columnOf, begun, value, opened}
 use Rattle.write.specs.Runs.{snapAt, putBack, lift, stepOn, enough, runWhile}
 use Rattle.write.specs.Machine.{going, callRule}
 use Rattle.write.proofs.Cases.{withJob}
@@ -35,9 +36,9 @@ use Rattle.table.proofs.Computes.{apart}
 use Rattle.promises.proofs.Witnesses.{none, seven, noLog, inside, wordAt}
 use Rattle.promises.proofs.Contracts.{Words, slice}
 use Rattle.write.proofs.Computes.{rules}
-use Rattle.promises.proofs.write.Promises.{Part, Whole, Beginning, HoldsPromise, PlacePromise, OpenOnPromise, AdvancePromise, AppendOnPromise}
+use Rattle.promises.proofs.write.Promises.{Part, Whole, Beginning, HoldsPromise, PlacePromise, OpenOnPromise, AdvancePromise, ExtendOnPromise, AppendOnPromise}
 use Rattle.promises.proofs.write.Promises.{UnderwayPromise, AtPromise, PollingPromise, LastPollingPromise, StepVerdictPromise}
-use Rattle.promises.proofs.write.Promises.{AppendPromise, StepPromise, RunPromise, PublishPromise, TryPromise, FlushPromise, TakePromise}
+use Rattle.promises.proofs.write.Promises.{ExtendPromise, AppendPromise, StepPromise, RunPromise, PublishPromise, TryPromise, FlushPromise, TakePromise}
 use Rattle.read.proofs.Cases.{stateOf, withLock}
 
 -- ---- what the witnesses are made of
@@ -303,47 +304,168 @@ standsStill-wrong h = apart movedTo refl (h (fitting Begin TakeFirst true true 0
 
 -- ---- append, on slot 0
 
--- judged as the rules have it, with another effect
-abbrev appendBy : (ℕ → ℕ → ℕ → Part) → ℕ → ℕ → ℕ → Part
-appendBy f kind key amount c s e l r g =
-    elim (smallest (writerSigns 7 (not (lawful kind key amount)) (not (c .first) && leb logRoom (c .length)) c s))
-    [ Admitted ↦ f kind key amount c s e l r g | Refused a ↦ lent (refused a c s e) l r g ]
+-- a program on operations: on those of words, and on a single one
+abbrev inWords : (List Op → Part) → List ℕ → Part
+inWords f ws = f (opsIn ws)
+
+abbrev single : (List Op → Part) → ℕ → ℕ → ℕ → Part
+single f kind key amount = f (op kind key amount ∷ [])
+
+-- what is made of operations that are admitted
+abbrev effect : List Op → Part
+effect os c = appended (c .first) os c
+
+-- judged by a test of the operations and by how many the log is asked to hold, with an effect
+abbrev appendBy : (List Op → Bool) → (List Op → ℕ) → (List Op → Part) → List Op → Part
+appendBy good n f os c s e l r g =
+    elim (smallest (writerSigns 7 (not (good os)) (crowds (n os) c) c s))
+    [ Admitted ↦ f os c s e l r g | Refused a ↦ lent (refused a c s e) l r g ]
+
+-- while `first` slot 0's epoch grows by this
+abbrev epochBy : (List Op → ℕ) → List Op → Part
+epochBy n =
+    appendBy lawfulBatch length
+    (λ os c s e l r g.
+    let o = effect os c s e l r g in
+    let t : Slot = elim (c .first) [ true ↦ withDue ((s .epoch + n os) % 2 ^ 64) (s .due) s | false ↦ s ] in
+    lent (madeAtOnce (o .made .control) t e) (o .left) (o .right) (o .log))
 
 -- slot 0's epoch stays
-abbrev epochStays : ℕ → ℕ → ℕ → Part
-epochStays =
-    appendBy
-    (λ kind key amount c s e l r g.
-    let o = appended (c .first) kind key amount c s e l r g in
-    lent (madeAtOnce (o .made .control) s e) (o .left) (o .right) (o .log))
+abbrev epochStays : List Op → Part
+epochStays = epochBy (λ os. 0)
 
-epochStays-wrong : AppendOnPromise epochStays → ⊥
+epochStays-wrong : AppendOnPromise (single epochStays) → ⊥
 unfolding rules
-epochStays-wrong h = apart (λ o. o .made .slot .epoch) refl (h 1 7 3 (fresh .control) newSlot 0 none none noLog refl)
+epochStays-wrong h = apart (λ o. o .made .slot .epoch) refl (h 1 7 3 idle newSlot 0 none none noLog refl)
 
 -- into the log while `first` too
-abbrev logsFirst : ℕ → ℕ → ℕ → Part
-logsFirst = appendBy (appended false)
+abbrev logsFirst : List Op → Part
+logsFirst = appendBy lawfulBatch length (appended false)
 
-logsFirst-wrong : AppendOnPromise logsFirst → ⊥
+logsFirst-wrong : AppendOnPromise (single logsFirst) → ⊥
 unfolding rules
-logsFirst-wrong h = apart (λ o. wordAt 0 (o .log)) refl (h 1 7 3 (fresh .control) newSlot 0 none none noLog refl)
+logsFirst-wrong h = apart (λ o. wordAt 0 (o .log)) refl (h 1 7 3 idle newSlot 0 none none noLog refl)
 
 -- to the copy that is read
-abbrev toRead : ℕ → ℕ → ℕ → Part
+abbrev toRead : List Op → Part
 toRead =
-    appendBy
-    (λ kind key amount c s e l r g.
+    appendBy lawfulBatch length
+    (λ os c s e l r g.
     elim (c .first) [
       | true ↦
-          let f = operated kind key amount in
-          lent (appendFirst kind key amount c s e l r g .made) (ofRight (c .right) f l) (ofLeft (c .right) f r) g
-      | false ↦ appended false kind key amount c s e l r g
+          let f = operatedAll os in
+          lent (appendFirst os c s e l r g .made) (ofRight (c .right) f l) (ofLeft (c .right) f r) g
+      | false ↦ appended false os c s e l r g
     ])
 
-toRead-wrong : AppendOnPromise toRead → ⊥
+toRead-wrong : AppendOnPromise (single toRead) → ⊥
 unfolding rules
-toRead-wrong h = apart (λ o. wordAt 0 (o .left)) refl (h 1 7 3 (fresh .control) newSlot 0 none none noLog refl)
+toRead-wrong h = apart (λ o. wordAt 0 (o .left)) refl (h 1 7 3 idle newSlot 0 none none noLog refl)
+
+-- ---- a batch, on slot 0
+
+-- ADDs of 1 to keys 7 and 8; key 7 added and dropped; a bad one behind a good one; one that is cut short; one too many; none
+abbrev two : Words
+two = slice (adds (7 ∷ 8 ∷ [])) refl
+
+abbrev addDrop : Words
+addDrop = slice (1 ∷ 7 ∷ 3 ∷ 2 ∷ 7 ∷ 0 ∷ []) refl
+
+abbrev badSecond : Words
+badSecond = slice (1 ∷ 7 ∷ 3 ∷ 1 ∷ 7 ∷ 0 ∷ []) refl
+
+abbrev torn : Words
+torn = slice (1 ∷ 7 ∷ 3 ∷ 1 ∷ []) refl
+
+abbrev tooMany : Words
+tooMany = slice (adds (replicate (batchRoom + 1) 7)) refl
+
+abbrev nothing : Words
+nothing = slice [] refl
+
+-- after the first swap, with so many operations in the log
+abbrev logging : ℕ → Control
+logging n = fitting Idle Publish false false n 0
+
+abbrev answeredOn : Lent Moved → ℕ
+answeredOn o = number (o .made .answer)
+
+-- those that the log has room for are taken
+abbrev takesWhatFits : List Op → Part
+takesWhatFits =
+    appendBy lawfulBatch (λ os. 0) (λ os c. effect (elim (c .first) [ true ↦ os | false ↦ take (logRoom - c .length) os ]) c)
+
+takesWhatFits-wrong : ExtendOnPromise (inWords takesWhatFits) → ⊥
+unfolding rules
+takesWhatFits-wrong h = apart answeredOn refl (h two (logging (logRoom - 1)) newSlot 0 none none noLog refl)
+
+-- slot 0's epoch grows for each operation
+abbrev stirsEach : List Op → Part
+stirsEach = epochBy (λ os. 2 * length os)
+
+stirsEach-wrong : ExtendOnPromise (inWords stirsEach) → ⊥
+unfolding rules
+stirsEach-wrong h = apart (λ o. o .made .slot .epoch) refl (h two idle newSlot 0 none none noLog refl)
+
+-- the operations before a bad one are applied, and then the batch is refused
+abbrev beforeBad : List Op → List Op
+beforeBad [] = []
+beforeBad (o ∷ os) = elim (lawful (o .kind) (o .key) (o .amount)) [ true ↦ o ∷ beforeBad os | false ↦ [] ]
+
+abbrev stopsAtBad : List Op → Part
+stopsAtBad os c s e l r g =
+    let o = appendOn (beforeBad os) c s e l r g in
+    lent (appendOn os c s e l r g .made) (o .left) (o .right) (o .log)
+
+stopsAtBad-wrong : ExtendOnPromise (inWords stopsAtBad) → ⊥
+unfolding rules
+stopsAtBad-wrong h = apart (λ o. wordAt 0 (o .right)) refl (h badSecond idle newSlot 0 none none noLog refl)
+
+-- the last operation first
+abbrev backwards : List Op → Part
+backwards os = appendOn (reverse os)
+
+backwards-wrong : ExtendOnPromise (inWords backwards) → ⊥
+unfolding rules
+backwards-wrong h = apart (λ o. wordAt 0 (o .right)) refl (h addDrop idle newSlot 0 none none noLog refl)
+
+-- words behind the last whole operation are not looked at
+abbrev wholeOps : List ℕ → List Op
+wholeOps [] = []
+wholeOps (kind ∷ []) = []
+wholeOps (kind ∷ key ∷ []) = []
+wholeOps (kind ∷ key ∷ amount ∷ ws) = op kind key amount ∷ wholeOps ws
+
+abbrev ignoresTail : List ℕ → Part
+ignoresTail ws = appendOn (wholeOps ws)
+
+ignoresTail-wrong : ExtendOnPromise ignoresTail → ⊥
+unfolding rules
+ignoresTail-wrong h = apart answeredOn refl (h torn idle newSlot 0 none none noLog refl)
+
+-- one more is taken than a batch may have
+abbrev oneTooMany : List Op → Part
+oneTooMany = appendBy (λ os. leb (length os) (batchRoom + 1) && allLawful os) length effect
+
+oneTooMany-wrong : ExtendOnPromise (inWords oneTooMany) → ⊥
+unfolding rules
+oneTooMany-wrong h = apart answeredOn refl (h tooMany idle newSlot 0 none none noLog refl)
+
+-- a batch of none does not move slot 0's epoch
+abbrev emptyRests : List Op → Part
+emptyRests = epochBy (λ os. elim (ltb 0 (length os)) [ true ↦ 2 | false ↦ 0 ])
+
+emptyRests-wrong : ExtendOnPromise (inWords emptyRests) → ⊥
+unfolding rules
+emptyRests-wrong h = apart (λ o. o .made .slot .epoch) refl (h nothing idle newSlot 0 none none noLog refl)
+
+-- a full log refuses a batch of none too
+abbrev fullRefuses : List Op → Part
+fullRefuses = appendBy lawfulBatch (λ os. elim (ltb 0 (length os)) [ true ↦ length os | false ↦ 1 ]) effect
+
+fullRefuses-wrong : ExtendOnPromise (inWords fullRefuses) → ⊥
+unfolding rules
+fullRefuses-wrong h = apart answeredOn refl (h nothing (logging logRoom) newSlot 0 none none noLog refl)
 
 -- ---- publish, try, flush and take, on slot 0
 
@@ -370,8 +492,15 @@ overAnother-wrong h = apart (λ o. number (o .answer)) refl (h opening.Publish (
 
 -- ---- the calls on the whole machine
 
-abbrev appends : (ℕ → ℕ → ℕ → Part) → ℕ → ℕ → ℕ → Whole
-appends f kind key amount = judging (λ st l r g. lift 0 st (f kind key amount (st .control) (slotAt st 0) (snapAt st 0) l r g))
+-- on slot 0
+abbrev onZero : Part → Whole
+onZero f = judging (λ st l r g. lift 0 st (f (st .control) (slotAt st 0) (snapAt st 0) l r g))
+
+abbrev appends : (List Op → Part) → ℕ → ℕ → ℕ → Whole
+appends f kind key amount = onZero (single f kind key amount)
+
+abbrev extends : (List ℕ → Part) → List ℕ → Whole
+extends f ws = onZero (f ws)
 
 abbrev opens : Opening → (Control → Slot → ℕ → Moved) → Beginning
 opens o f st l r g =
@@ -389,20 +518,37 @@ unfolding rules
 append-epochStays-wrong h = apart epoch0 refl (h 1 7 3 fresh none none noLog refl)
 
 -- append: a full log takes one more, which is counted and lost
-abbrev oneMore : ℕ → ℕ → ℕ → Part
-oneMore kind key amount c s e l r g =
-    elim (not (c .first) && eqb (c .length) logRoom) [
-      | true ↦
-          elim (smallest (writerSigns 7 (not (lawful kind key amount)) false c s)) [
-            | Admitted ↦ lent (madeAtOnce (withLog (c .length + 1) (c .swapped) c) s e) l r g
-            | Refused a ↦ lent (refused a c s e) l r g
-          ]
-      | false ↦ appendOn kind key amount c s e l r g
-    ]
+abbrev oneMore : List Op → Part
+oneMore = appendBy lawfulBatch (λ os. 0) effect
 
 append-oneMore-wrong : AppendPromise (appends oneMore) → ⊥
 unfolding rules
-append-oneMore-wrong h = apart answered refl (h 1 7 3 (with1 (fitting Idle Publish false false logRoom 0) noSlot 0) none none fullLog refl)
+append-oneMore-wrong h = apart answered refl (h 1 7 3 (with1 (logging logRoom) noSlot 0) none none fullLog refl)
+
+-- a batch
+extend-takesWhatFits-wrong : ExtendPromise (extends (inWords takesWhatFits)) → ⊥
+unfolding rules
+extend-takesWhatFits-wrong h = apart answered refl (h two (with1 (logging (logRoom - 1)) noSlot 0) none none fullLog refl)
+
+extend-stirsEach-wrong : ExtendPromise (extends (inWords stirsEach)) → ⊥
+unfolding rules
+extend-stirsEach-wrong h = apart epoch0 refl (h two fresh none none noLog refl)
+
+extend-stopsAtBad-wrong : ExtendPromise (extends (inWords stopsAtBad)) → ⊥
+unfolding rules
+extend-stopsAtBad-wrong h = apart (λ o. wordAt 0 (o .right)) refl (h badSecond fresh none none noLog refl)
+
+extend-backwards-wrong : ExtendPromise (extends (inWords backwards)) → ⊥
+unfolding rules
+extend-backwards-wrong h = apart (λ o. wordAt 0 (o .right)) refl (h addDrop fresh none none noLog refl)
+
+extend-ignoresTail-wrong : ExtendPromise (extends ignoresTail) → ⊥
+unfolding rules
+extend-ignoresTail-wrong h = apart answered refl (h torn fresh none none noLog refl)
+
+extend-oneTooMany-wrong : ExtendPromise (extends (inWords oneTooMany)) → ⊥
+unfolding rules
+extend-oneTooMany-wrong h = apart answered refl (h tooMany fresh none none noLog refl)
 
 -- publish: the swap at its beginning
 abbrev swapsAtOnce : Beginning
@@ -518,7 +664,7 @@ step-unjudged-wrong h = apart answered refl (h (with1 (fitting Swap Publish fals
 -- a run that says another value where it is held, of the steps that were made
 abbrev heldSays : (ℕ → ℕ) → Whole
 heldSays f st l r g =
-    let o = callRule call.Run st l r g in
+    let o = callRule Run st l r g in
     let m = o .made in
     elim (eqb (number (m .answer)) 13) [
       | true ↦ lent (record { answer = m .answer; value = f (m .value); state = m .state }) (o .left) (o .right) (o .log)

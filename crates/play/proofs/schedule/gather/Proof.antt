@@ -21,6 +21,12 @@ abbrev μ-loop : tie.MeasureT-loop
 loop-holds : tie.Need-loop-holds Inv-loop μ-loop
 loop-holds c = (omega arith, c .before .before .pre .0, c .before .before .pre .1, c .before .before .pre .2, refl, refl)
 
+write-2 : tie.Need-slice-write-ops-2 Inv-loop μ-loop
+write-2 c = let v = c .before .before .loop .inv in simp length-set (omega (arith, v .3, v .4, c .before .loop-test .taken))
+
+write-3 : tie.Need-slice-write-ops-3 Inv-loop μ-loop
+write-3 c = let v = c .before .before .loop .inv in simp length-set (omega (arith, v .3, v .4, c .before .loop-test .taken))
+
 loop-again : tie.Need-loop-again Inv-loop μ-loop
 loop-again c =
     let at = c .before .before in
@@ -37,4 +43,4 @@ returns c =
 
 pub gather-spec : {M : Type 1} → statement M
 gather-spec =
-    tie.close (all2 (all3 (all9 (tie.spec Inv-loop μ-loop loop-holds) (omega arith) (λ c. search needs)) (omega arith) (λ c. search needs)) (omega arith) loop-again (λ c. search needs) returns)
+    tie.close (all2 (all3 (all9 (tie.spec Inv-loop μ-loop loop-holds) (omega arith) write-2) (omega arith) write-3) (omega arith) loop-again (λ c. search needs) returns)

@@ -1,5 +1,6 @@
 -- Of more than there is room for, so many as are refused alike.
-use mathlib.Core.Path.{_∙_}
+use mathlib.Core.Path.{sym, _∙_}
+use lib.Seq.{length-take-le}
 use native.Mathlib.Omega.{arith}
 use borrow.Author.Needs.{needs}
 use Rattle.table.proofs.Needs.{all3}
@@ -9,6 +10,12 @@ use Rattle.play.proofs.turns.batch.Tie as tie
 
 gather-requires : tie.Need-gather-requires
 gather-requires c κs = (c .before .before .before .before .before .before .pre, omega (arith, c .before .fewer .ensures), omega (arith, c .before .fewer .ensures))
+
+share : tie.Need-array-share-prefix-ops
+share c = omega (arith, c .before .before .before .fewer .ensures, c .ops2 .given)
+
+prefix : tie.Need-slice-aggregate-extend-on
+prefix c = sym (length-take-le _ _ (share (c .before)))
 
 returns : tie.Need-returns
 returns c =
@@ -20,4 +27,4 @@ returns c =
 
 pub batch-spec : {M : Type 1} → statement M
 batch-spec =
-    tie.close (all3 (tie.spec (λ c κs. search needs) (λ c. search needs) gather-requires (λ c. omega arith) (λ c. omega arith) (λ c. search needs) (λ c κs. search needs)) (omega arith) returns)
+    tie.close (all3 (tie.spec (λ c κs. search needs) (λ c. search needs) gather-requires (λ c. omega (arith, c .before .before .before .fewer .ensures)) share prefix (λ c κs. search needs)) (omega arith) returns)
