@@ -94,7 +94,7 @@ module _ (s : List ℕ) (i : ℕ) where
   -- what speaks against a bad one
   pub bad-cases :
       {C : Type 0} → badAt s i ≡ true → (call < 1 → C) → (15 < call → C) → (count s - i - 1 < members → C) →
-      ((j : ℕ) → j < members → (getD s (startOf (i + 1 + j)) 0 ≡ 8 → ⊥) → C) → C
+      (members ≤ count s - i - 1 → (j : ℕ) → j < members → (getD s (startOf (i + 1 + j)) 0 ≡ 8 → ⊥) → C) → C
   bad-cases b low high few other =
       under call 1 low
       (λ l.
@@ -105,7 +105,7 @@ module _ (s : List ℕ) (i : ℕ) where
       let j = firstOther s i members in
       let n = eqb-false j members (not-true _ (sym (bad-rest l h f) ∙ b)) in
       let k : j < members = omega (arith, seek-bounds (otherAt s i) members) in
-      other j k (eqb-false _ 8 (not-true _ (seek-found (otherAt s i) members k))))))
+      other f j k (eqb-false _ 8 (not-true _ (seek-found (otherAt s i) members k))))))
 
 -- an append is not bad, whatever is behind it
 pub append-good : (s : List ℕ) (i : ℕ) → getD s (startOf i) 0 ≡ 8 → badAt s i ≡ false

@@ -3,11 +3,23 @@ use Prim.Native.Nat.{ℕ, _+_, _*_, _≤_, _<_}
 use mathlib.Core.Path.{_≡_}
 use mathlib.Core.List.{List, [], _∷_}
 use lib.ListN.{length, getD, take, drop}
+use Rattle.format.specs.Schedule.{numberAt, entriesIn}
 use Rattle.play.specs.Player.{Output}
 
 -- a file, and the output as it was, to what comes back
 abbrev pub Player : Type 0
 Player = List ℕ → List ℕ → Output
+
+-- of record i, counted from 0 on: that it is there as a whole; its call, which is its first byte; and its amount, the eight bytes from its
+-- byte 12 on
+abbrev pub Whole : List ℕ → ℕ → Type 0
+Whole s i = 5 + 20 * i + 20 ≤ length s
+
+abbrev pub callAt : List ℕ → ℕ → ℕ
+callAt s i = getD s (5 + 20 * i) 0
+
+abbrev pub amountAt : List ℕ → ℕ → ℕ
+amountAt s i = numberAt 8 s (5 + 20 * i + 12)
 
 -- what speaks against a file, by the number that is given for it
 pub data Applies (s out : List ℕ) : ℕ → Type 0 where
@@ -18,12 +30,15 @@ pub data Applies (s out : List ℕ) : ℕ → Type 0 where
   version : (getD s 3 0 + 256 * getD s 4 0 ≡ 1 → ⊥) → Applies s out 22
   -- no whole number of records of 20 bytes
   torn : ((n : ℕ) → length s ≡ 5 + 20 * n → ⊥) → Applies s out 23
-  -- a whole record whose first byte, the call, is not 1 to 14
-  unknown :
-      (i : ℕ) → 5 + 20 * i + 20 ≤ length s → ((1 ≤ getD s (5 + 20 * i) 0) × (getD s (5 + 20 * i) 0 ≤ 14) → ⊥) →
-      Applies s out 24
-  -- an output of less than 9 bytes a record
-  crowded : (n : ℕ) → length s ≡ 5 + 20 * n → length out < 9 * n → Applies s out 25
+  -- a whole record whose call is not 1 to 15
+  unknown : (i : ℕ) → Whole s i → ((1 ≤ callAt s i) × (callAt s i ≤ 15) → ⊥) → Applies s out 24
+  -- a batch, 15, with fewer whole records behind it than its amount says
+  cut-short : (i : ℕ) → Whole s i → callAt s i ≡ 15 → length s < 5 + 20 * (i + 1 + amountAt s i) → Applies s out 24
+  -- a batch with a record among those that belong to it that is no append, 8
+  mixed :
+      (i j : ℕ) → callAt s i ≡ 15 → j < amountAt s i → Whole s (i + 1 + j) → (callAt s (i + 1 + j) ≡ 8 → ⊥) → Applies s out 24
+  -- an output of less than 9 bytes an entry: each whole record has one, but for those that belong to a batch before them
+  crowded : length out < 9 * entriesIn s → Applies s out 25
 
 -- the smallest number that applies, with 0 bytes reported and no byte written
 pub record Refused (s out : List ℕ) (o : Output) : Type 0 where
@@ -33,13 +48,13 @@ pub record Refused (s out : List ℕ) (o : Output) : Type 0 where
   pub reported : o .result .written ≡ 0
   pub untouched : o .bytes ≡ out
 
--- none applies: 9 bytes a record, and behind them the output as it was
+-- none applies: 9 bytes an entry, and behind them the output as it was
 pub record Done (s out : List ℕ) (o : Output) : Type 0 where
   pub flawless : (a : ℕ) → Applies s out a → ⊥
   pub records : ℕ
   pub whole : length s ≡ 5 + 20 * records
-  pub reported : o .result .written ≡ 9 * records
-  pub behind : drop (9 * records) (o .bytes) ≡ drop (9 * records) out
+  pub reported : o .result .written ≡ 9 * entriesIn s
+  pub behind : drop (9 * entriesIn s) (o .bytes) ≡ drop (9 * entriesIn s) out
   pub as-long : length (o .bytes) ≡ length out
 
 abbrev pub Outcome : List ℕ → List ℕ → Output → Type 0

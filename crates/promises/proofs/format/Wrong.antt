@@ -140,7 +140,7 @@ judging bad s =
     ]
 
 -- a batch may stand inside a batch
-abbrev nested : List ℕ → Flaw
+abbrev pub nested : List ℕ → Flaw
 nested =
     judging
     (λ s i.
@@ -154,7 +154,7 @@ unfolding rules
 nested-wrong h = apart (λ f. f .answer) refl (h (slice (file (one 15 1 ++ one 15 0)) refl) refl)
 
 -- a batch may say more records than there are
-abbrev cutShort : List ℕ → Flaw
+abbrev pub cutShort : List ℕ → Flaw
 cutShort = judging (λ s i. badAt s i && leb (membersAt s (startOf i)) (count s - i - 1))
 
 cutShort-wrong : CheckPromise cutShort → ⊥

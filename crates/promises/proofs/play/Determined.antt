@@ -4,7 +4,6 @@ use mathlib.Core.Path.{_≡_, sym, ap, _∙_}
 use denote.Ref.{now}
 use Rattle.play.specs.Player.{Output}
 use Rattle.play.proofs.lrt_play.Reads as lrt-play
-use Rattle.promises.proofs.Contracts.{Determines}
 
 -- what comes back, and the whole output
 lrt-play-determined :
