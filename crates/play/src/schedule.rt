@@ -5,10 +5,11 @@ use read::Handle;
 use write::Opening;
 ghost use mathlib.Core.Path.{_≡_};
 ghost use mathlib.Core.List.{List};
-ghost use Prim.Native.Nat.{_+_, _*_, _≤_, _<_, min};
+ghost use Prim.Native.Nat.{suc, _+_, _*_, _≤_, _<_, min};
 ghost use lib.ListN.{length, take};
 ghost use Rattle.table.specs.Order.{Op};
 ghost use Rattle.write.specs.Call.{On, Open, opsIn};
+ghost use Rattle.write.specs.Begins.{batchRoom};
 ghost use Rattle.format.specs.Schedule.{recordBytes, membersIn, membersAt};
 ghost use Rattle.play.specs.Schedule.{callOf, opsFrom, decoded};
 ghost use Rattle.play.specs.Turns.{meant, membersOf, meantAt, behind as behindRule};
@@ -142,7 +143,7 @@ pub(crate) fn behind(s: &[u8], at: usize, a: Act) -> usize
 
 // The operations of the `n` records from byte `at` on, three words each.
 pub(crate) fn gather(s: &[u8], at: usize, n: usize, ops: &mut [u64])
-    requires { ⌜ (at ≤ length (now s)) × (n ≤ 65) × (3 * n ≤ length (now ops)) ⌝ }
+    requires { ⌜ (at ≤ length (now s)) × (n ≤ suc batchRoom) × (3 * n ≤ length (now ops)) ⌝ }
     ensures { λ _. ⌜ opsIn (take (3 * n) (now (ops .exit))) ≡ opsFrom (now (s .entry)) at n ⌝ }
 {
     let mut i = 0;

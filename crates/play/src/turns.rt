@@ -13,6 +13,7 @@ use read::admission;
 use read::guards;
 use read::handles;
 use table::Answer;
+use write::BATCH_ROOM;
 use write::Moved;
 use write::begins;
 use write::steps;
@@ -104,8 +105,8 @@ fn touch<'a>(i: usize, h: Handle, c: Control, s: Slot, left: &'a [u64], right: &
     moved_as(answer, m.value, c, slot)
 }
 
-// The words of so many operations that they are refused, whatever they are.
-const CROWD: usize = 65;
+// So many operations that they are refused, whatever they are.
+const CROWD: usize = BATCH_ROOM + 1;
 
 // A batch of `n`, whose records begin at byte `at`.
 fn batch(

@@ -9,6 +9,9 @@ use read::Control;
 use read::Slot;
 use table::Answer;
 
+// How many operations a batch has at most.
+pub const BATCH_ROOM: usize = 64;
+
 // What a step of the writer, or a call that is made at once, makes of the control part and of the one slot that it looks at.
 pub struct Moved {
     pub answer: Answer,

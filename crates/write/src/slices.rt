@@ -1,4 +1,5 @@
 // The lent words: what a step or an append does to the copy that the pointer does not name, and to the log.
+use crate::BATCH_ROOM;
 use read::LOG_ROOM;
 ghost use mathlib.Core.Path.{_≡_};
 ghost use mathlib.Core.Bool.{true};
@@ -51,7 +52,7 @@ fn copy_over(from: &[u64], to: &mut [u64])
 // ---- operations in words, three each
 
 // How many words operations may have.
-const MOST: usize = 3 * 64;
+const MOST: usize = 3 * BATCH_ROOM;
 
 // How many operations there are, one that is cut short too.
 pub(crate) fn count(ops: &[u64]) -> usize

@@ -1,11 +1,12 @@
 -- Before a turn the words before 3 i are the operations of i records.
-use Prim.Native.Nat.{ℕ, _+_, _-_, _*_, _≤_}
+use Prim.Native.Nat.{ℕ, suc, _+_, _-_, _*_, _≤_}
 use mathlib.Core.Path.{_≡_, refl, subst}
 use native.Mathlib.Omega.{arith}
 use borrow.Author.Needs.{needs}
 use lib.ListN.{length, length-set, take}
 use Rattle.table.proofs.Needs.{all2, all3, all9}
 use Rattle.write.specs.Call.{opsIn}
+use Rattle.write.specs.Begins.{batchRoom}
 use Rattle.play.specs.Schedule.{opsFrom}
 use Rattle.play.proofs.Gathered.{gathered}
 use Rattle.play.proofs.schedule.gather.Statement.{statement}
@@ -13,7 +14,7 @@ use Rattle.play.proofs.schedule.gather.Tie as tie
 
 abbrev Inv-loop : tie.InvT-loop
 Inv-loop s at n ops₀ i₀ ops i =
-    (i ≤ n) × (at ≤ length s) × (n ≤ 65) × (3 * n ≤ length ops₀) × (length ops ≡ length ops₀) × (opsIn (take (3 * i) ops) ≡ opsFrom s at i)
+    (i ≤ n) × (at ≤ length s) × (n ≤ suc batchRoom) × (3 * n ≤ length ops₀) × (length ops ≡ length ops₀) × (opsIn (take (3 * i) ops) ≡ opsFrom s at i)
 
 abbrev μ-loop : tie.MeasureT-loop
 μ-loop s at n ops₀ i₀ ops i = n - i
