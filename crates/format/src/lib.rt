@@ -176,20 +176,21 @@ fn check_records(s: &[u8]) -> Flaw
     ensures { λ r. ⌜ r ≡ flawIn (now (s .entry)) ⌝ }
 {
     let n = count(s);
+    let end = HEAD + RECORD * n;
     let mut inside = 0;
-    let mut i = 0;
-    while i < n {
-        let at = HEAD + RECORD * i;
+    let mut at = HEAD;
+    while at < end {
         let call = s[at];
         if call < 1 || BATCH <= call {
+            let i = (at - HEAD) / RECORD;
             if is_bad(s, i, n) {
                 return flawed(BAD, i);
             }
             let m = members(s, at);
             inside += m;
-            i += m;
+            at += RECORD * m;
         }
-        i += 1;
+        at += RECORD;
     }
     Flaw {
         answer: 0,
