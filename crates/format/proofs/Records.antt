@@ -107,12 +107,11 @@ module _ (s : List ℕ) (i : ℕ) where
       let k : j < members = omega (arith, seek-bounds (otherAt s i) members) in
       other f j k (eqb-false _ 8 (not-true _ (seek-found (otherAt s i) members k))))))
 
--- an append is not bad, whatever is behind it
-pub append-good : (s : List ℕ) (i : ℕ) → getD s (startOf i) 0 ≡ 8 → badAt s i ≡ false
-append-good s i e =
-    let m : membersAt s (startOf i) ≡ 0 = members-none s (startOf i) (λ f. omega (arith, e, f)) in
-    good-not-bad s i
-    (record { low = omega (arith, e); high = omega (arith, e); behind = omega (arith, m); appends = λ j h. absurd (omega (arith, m)) })
+-- a call to which no records belong is not bad, whatever is behind it
+pub lone-good : (s : List ℕ) (i : ℕ) → 1 ≤ getD s (startOf i) 0 → getD s (startOf i) 0 < 15 → badAt s i ≡ false
+lone-good s i l h =
+    let m : membersAt s (startOf i) ≡ 0 = members-none s (startOf i) (λ f. omega (arith, f)) in
+    good-not-bad s i (record { low = l; high = omega arith; behind = omega (arith, m); appends = λ j h. absurd (omega (arith, m)) })
 
 -- ---- what is wrong with a file
 

@@ -169,25 +169,33 @@ fn flawed(answer: u64, place: usize) -> Flaw
     }
 }
 
-// What is wrong with records that are all whole. Those that belong to a batch are looked at with it, and get no entry.
+// What is wrong with records that are all whole. Those inside a batch, which belong to it, are looked at with it, and get no entry.
+// Only a batch and what is no call can be bad, so any other record is passed at once.
 fn check_records(s: &[u8]) -> Flaw
     requires { ⌜ headBytes ≤ length (now s) ⌝ }
     ensures { λ r. ⌜ r ≡ flawIn (now (s .entry)) ⌝ }
 {
     let n = count(s);
-    let mut entries = 0;
-    let mut i = 0;
-    while i < n {
-        if is_bad(s, i, n) {
-            return flawed(BAD, i);
+    let end = HEAD + RECORD * n;
+    let mut inside = 0;
+    let mut at = HEAD;
+    while at < end {
+        let call = s[at];
+        if call < 1 || BATCH <= call {
+            let i = (at - HEAD) / RECORD;
+            if is_bad(s, i, n) {
+                return flawed(BAD, i);
+            }
+            let m = members(s, at);
+            inside += m;
+            at += RECORD * m;
         }
-        i = i + 1 + members(s, HEAD + RECORD * i);
-        entries += 1;
+        at += RECORD;
     }
     Flaw {
         answer: 0,
         place: n,
-        entries,
+        entries: n - inside,
     }
 }
 

@@ -38,7 +38,7 @@ use Rattle.write.proofs.Left.{usedAs, step-slot, step-value, step-lowers, manyS
 use Rattle.write.proofs.NeverBroken.{Sound, sound-step}
 use Rattle.play.specs.declared.turns.Far.{Far}
 use Rattle.play.specs.Player.{machine}
-use Rattle.play.specs.Turns.{meant, isGoing, isRunning, halt, haltOf, far, facing, wentOn}
+use Rattle.play.specs.Turns.{meant, membersOf, isGoing, isRunning, halt, haltOf, far, facing, wentOn}
 use Rattle.play.proofs.Run.{runFrom, run-starts, run-over, run-unrolls}
 use Rattle.play.proofs.Turned.{read-slot}
 use Rattle.read.proofs.Cases.{stateOf}
@@ -46,6 +46,16 @@ use Rattle.read.specs.Handles.{given}
 use Rattle.read.proofs.Phases.{idle-cases, underway-stays}
 use Rattle.write.proofs.Count.{left}
 use Rattle.write.proofs.Refusals.{lifted-same}
+
+-- no records belong to it
+pub going-alone : (k : Act) → isGoing k ≡ true → membersOf k ≡ 0
+going-alone act.Create p = refl
+going-alone (act.On i h) p = refl
+going-alone (act.Append kind key amount) p = refl
+going-alone (act.Batch n) p = absurd (true≢false (sym p))
+going-alone (act.Open o) p = refl
+going-alone act.Step p = refl
+going-alone act.Run p = refl
 
 -- ---- what halts a step
 

@@ -77,6 +77,7 @@ fn play_on(
                 k = steps::place(p);
                 far = turns::went_on(call, far.value, m, c, slots[k], snaps[k]);
             }
+            from += RECORD;
         } else {
             let mut i = turns::named(call);
             while turns::passes(call, i, slots[i % SLOTS]) {
@@ -89,9 +90,9 @@ fn play_on(
             slots[k] = own;
             c = m.control;
             far = turns::over(m);
+            from = schedule::behind(s, from, call);
         }
         format::put(out, to, far.answer, far.value);
-        from = schedule::behind(s, from, call);
         to += ENTRY;
     }
     let after = State {

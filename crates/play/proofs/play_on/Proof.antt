@@ -6,7 +6,7 @@ use mathlib.Core.Path.{_≡_, sym, ap, subst, _∙_}
 use mathlib.Core.Logic.{⊎-elim}
 use native.Mathlib.Omega.{arith}
 use borrow.Author.Needs.{needs}
-use Rattle.table.proofs.Needs.{all2, all4}
+use Rattle.table.proofs.Needs.{all4}
 use lib.ListN.{length, getD, length-map}
 use Rattle.read.specs.declared.Slot.{Slot}
 use Rattle.read.specs.Machine.{slotTotal, slotCount, noSlot, place}
@@ -21,7 +21,7 @@ use Rattle.format.proofs.Bytes.{put-entry}
 use Rattle.play.specs.Schedule.{opsFrom, decoded, callsIn}
 use Rattle.play.specs.Player.{transcript, machine}
 use Rattle.play.proofs.Turned.{sought, passes-below, sought-next, sought-here, within-below, read-slot}
-use Rattle.play.proofs.Going.{Said, Goes, Going, going-begins, going-steps, sound-after, next-slot, said-as, ahead, ahead-less}
+use Rattle.play.proofs.Going.{Said, Goes, Going, going-alone, going-begins, going-steps, sound-after, next-slot, said-as, ahead, ahead-less}
 use Rattle.play.proofs.Plays.{Plays, remain, next, plays-start, plays-record, plays-room, plays-next, plays-end, plays-reached, sound-judged, turn-said}
 use Rattle.play.proofs.play_on.Statement.{statement}
 use Rattle.play.proofs.play_on.Tie as tie
@@ -104,14 +104,14 @@ says j =
     (λ (k : Call). Said (callOn k (stateOf (v .c) (v .slots) (v .snaps)) (v .left) (v .right) (v .log)) (f .far) (f .c) (f .slots) (f .snaps) (f .left) (f .right) (f .log))
     (d .ensures .1)
     (⊎-elim
-    (λ w. said-as (w .4 .inv .0 .ends (w .5 .left)) (w .6) (w .7) (w .8) (w .9) (w .10) (w .11) (w .12))
+    (λ w. said-as (w .4 .inv .0 .ends (w .5 .left)) (w .6) (w .7) (w .8) (w .9) (w .10) (w .11) (w .13))
     (λ w.
     let own = read-slot (v .slots) _ (v .inv .sound .slots) (within-below (w .2 .i)) in
     let q = sought-here (v .slots) (w .2 .i) own (d .result) (sym (w .4 .ensures) ∙ w .5 .left) in
     said-as
     (turn-said (opsFrom s (v .from + recordBytes) (membersOf (d .result))) (d .result) (sym p ∙ w .0 .left) (v .c) (v .slots) (v .snaps) (v .left) (v .right) (v .log) (sym q ∙ w .2 .inv)
     (read-slot (v .slots) _ (v .inv .sound .slots) (within-below (w .2 .i))) (w .10 .ensures))
-    (w .20) (w .21) (w .22) (w .23) (w .24) (w .25) (w .26 ∙ w .19 .ensures))
+    (w .21) (w .22) (w .23) (w .24) (w .25) (w .26) (w .28 ∙ w .19 .ensures))
     (f .came))
 
 loop-holds : tie.Need-loop-holds Inv-loop2 μ-loop2 Inv-loop3 μ-loop3 Inv-loop μ-loop
@@ -217,30 +217,35 @@ turn-requires : tie.Need-turn-requires Inv-loop2 μ-loop2 Inv-loop3 μ-loop3 Inv
 turn-requires c κs = whole (c .before .before .before .before .before .before .before .before .before .before .before .before .before)
 
 behind-requires : tie.Need-behind-requires Inv-loop2 μ-loop2 Inv-loop3 μ-loop3 Inv-loop μ-loop
-behind-requires c κs = whole (c .before .before .before .before .before .before .before .before)
+behind-requires c κs = whole (c .before .before .before .before .before .before .before .before .before .before .before .before .before .before .before .before .before .before .before .before .before .before .before)
 
--- where the next one begins
-there : (c : tie.After-behind Inv-loop2 μ-loop2 Inv-loop3 μ-loop3 Inv-loop μ-loop) →
-    (let i = c .before .before .before .before .before .before .before .before .before in
-    c .behind .result ≡ next (i .before .loop .inv) (i .loop-test .taken))
-there c =
-    let i = c .before .before .before .before .before .before .before .before .before in
+add-from : tie.Need-add-from Inv-loop2 μ-loop2 Inv-loop3 μ-loop3 Inv-loop μ-loop
+add-from c = omega (arith, whole (c .before .before .before .before .before .before .before .before .before), c .before .before .before .before .before .before .before .before .before .before .before .before .before .before .before .before .before .before .before .good)
+
+-- where the next one begins, by either way
+there : (j : tie.Joined1 Inv-loop2 μ-loop2 Inv-loop3 μ-loop3 Inv-loop μ-loop) →
+    (let i = j .before .before .before .before in j .if1 .from ≡ next (i .before .loop .inv) (i .loop-test .taken))
+there j =
+    let i = j .before .before .before .before in
     let s = i .before .before .before .before .before .before .before .before .before .before .args .s .now in
     let v = i .before .loop in
-    c .behind .ensures ∙ ap (λ (m : ℕ). v .from + recordBytes * suc (min m (remain s (v .from) - 1))) (c .before .before .before .before .before .before .before .before .decode .ensures .0)
+    let d = j .before .before .before .decode in
+    ⊎-elim (λ w. omega (arith, w .12, d .ensures .0, going-alone (d .result) (sym (j .before .is-going .ensures) ∙ w .0 .taken)))
+    (λ w. w .27 ∙ w .20 .ensures ∙ ap (λ (m : ℕ). v .from + recordBytes * suc (min m (remain s (v .from) - 1))) (d .ensures .0))
+    (j .if1 .came)
 
 add-to : tie.Need-add-to Inv-loop2 μ-loop2 Inv-loop3 μ-loop3 Inv-loop μ-loop
-add-to c = let i = c .before .before .before .before .before .before .before .before .before in omega (arith, plays-room (i .before .loop .inv) (i .loop-test .taken), i .before .before .before .before .before .before .before .before .before .before .good)
+add-to c = let i = c .before .before .before .before .before .before .before .before in omega (arith, plays-room (i .before .loop .inv) (i .loop-test .taken), i .before .before .before .before .before .before .before .before .before .before .good)
 
 loop-less : tie.Need-loop-less Inv-loop2 μ-loop2 Inv-loop3 μ-loop3 Inv-loop μ-loop
-loop-less c = omega (arith, whole (c .before .before .before .before .before .before .before .before .before), there c)
+loop-less c = omega (arith, whole (c .before .before .before .before .before .before .before .before), there (c .before .before .before .before))
 
 loop-again : tie.Need-loop-again Inv-loop2 μ-loop2 Inv-loop3 μ-loop3 Inv-loop μ-loop
 loop-again c =
-    let j = c .before .before .before .before .before in
+    let j = c .before .before .before .before in
     let i = j .before .before .before .before in
     plays-next (i .before .loop .inv) (i .loop-test .taken) (says j) _
-    (c .before .before .before .put .ensures ∙ put-entry _ _ _ _ (plays-room (i .before .loop .inv) (i .loop-test .taken))) (there c)
+    (c .before .before .put .ensures ∙ put-entry _ _ _ _ (plays-room (i .before .loop .inv) (i .loop-test .taken))) (there j)
 
 same-length : tie.Need-same-length Inv-loop2 μ-loop2 Inv-loop3 μ-loop3 Inv-loop μ-loop
 same-length c = c .before .loop .inv .sized
@@ -289,4 +294,4 @@ array-set-from-slots-2 c = within-below (c .before .before .before .before .befo
 
 pub play-on-spec : {M : Type 1} → statement M
 play-on-spec =
-    tie.close (all2 (all4 (tie.spec Inv-loop2 μ-loop2 Inv-loop3 μ-loop3 Inv-loop μ-loop (λ c. search needs) loop-holds) (omega arith) mul-facing array-copy-out-facing mul-facing-2 array-read-facing (λ c κs. search needs) loop2-holds mul-advance array-copy-out-advance mul-advance-2 array-read-advance (λ c κs. search needs) mul-own array-copy-out-own mul-slots array-set-from-slots mul-snaps array-write-snaps (λ c κs. search needs) mul-went-on array-copy-out-went-on mul-went-on-2 array-read-went-on went-on-requires loop2-less loop2-again (λ c κs. search needs) loop3-holds mul-passes array-copy-out-passes (λ c κs. search needs) add-i loop3-less loop3-again mul-turn array-copy-out-turn turn-requires mul-slots-2 array-set-from-slots-2) (omega arith) behind-requires add-to loop-less loop-again same-length same-length-2 same-length-3 same-length-4 returns)
+    tie.close (all4 (tie.spec Inv-loop2 μ-loop2 Inv-loop3 μ-loop3 Inv-loop μ-loop (λ c. search needs) loop-holds) (omega arith) mul-facing array-copy-out-facing mul-facing-2 array-read-facing (λ c κs. search needs) loop2-holds mul-advance array-copy-out-advance mul-advance-2 array-read-advance (λ c κs. search needs) mul-own array-copy-out-own mul-slots array-set-from-slots mul-snaps array-write-snaps (λ c κs. search needs) mul-went-on array-copy-out-went-on mul-went-on-2 array-read-went-on went-on-requires loop2-less loop2-again add-from (λ c κs. search needs) loop3-holds mul-passes array-copy-out-passes (λ c κs. search needs) add-i loop3-less loop3-again mul-turn array-copy-out-turn turn-requires mul-slots-2 array-set-from-slots-2 (λ c κs. search needs) behind-requires (λ c κs. search needs) add-to loop-less loop-again same-length same-length-2 same-length-3 same-length-4 returns)
