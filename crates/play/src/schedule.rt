@@ -5,10 +5,10 @@ use read::Handle;
 use write::Opening;
 ghost use mathlib.Core.Path.{_≡_};
 ghost use mathlib.Core.List.{List};
-ghost use Prim.Native.Nat.{suc, _+_, _*_, _≤_, _<_, min};
+ghost use Prim.Native.Nat.{suc, _+_, _*_, _≤_, min};
 ghost use lib.ListN.{length, take};
 ghost use Rattle.table.specs.Order.{Op};
-ghost use Rattle.write.specs.Call.{On, Open, opsIn};
+ghost use Rattle.write.specs.Call.{opsIn};
 ghost use Rattle.write.specs.Begins.{batchRoom};
 ghost use Rattle.format.specs.Schedule.{recordBytes, membersIn, membersAt};
 ghost use Rattle.play.specs.Schedule.{callOf, opsFrom, decoded};
@@ -25,74 +25,28 @@ pub(crate) enum Act {
     Run,
 }
 
-// A handle's call, 2 to 7.
-fn handle_of(f: Fields) -> Handle
-    requires { ⌜ (2 ≤ f .call) × (f .call < 8) ⌝ }
-    ensures { λ r. ⌜ ((os : List Op) → On (f .slot) r ≡ callOf os f) ⌝ }
-{
-    let call = f.call;
-    if call == 2 {
-        return Handle::Drop;
-    }
-    if call == 3 {
-        return Handle::Enter;
-    }
-    if call == 4 {
-        return Handle::GoOn;
-    }
-    if call == 5 {
-        return Handle::Release(f.guard);
-    }
-    if call == 6 {
-        return Handle::LookUp(f.guard, f.key);
-    }
-    Handle::WasDropped
-}
-
-// A beginning, 9 to 12.
-fn opening_of(f: Fields) -> Opening
-    requires { ⌜ (9 ≤ f .call) × (f .call < 13) ⌝ }
-    ensures { λ r. ⌜ ((os : List Op) → Open r ≡ callOf os f) ⌝ }
-{
-    let call = f.call;
-    if call == 9 {
-        return Opening::Publish;
-    }
-    if call == 10 {
-        return Opening::Try;
-    }
-    if call == 11 {
-        return Opening::Flush;
-    }
-    Opening::Take
-}
-
-// Any call.
+// The call of a record by its number. What is none is taken for the nearest one, or for run.
 fn act_of(f: Fields) -> Act
     ensures { λ r. ⌜ (membersOf r ≡ membersIn f) × ((os : List Op) → meant os r ≡ callOf os f) ⌝ }
 {
     let call = f.call;
-    if call < 8 {
-        if call < 2 {
-            return Act::Create;
-        }
-        let h = handle_of(f);
-        return Act::On(f.slot, h);
+    match call {
+        0 | 1 => Act::Create,
+        2 => Act::On(f.slot, Handle::Drop),
+        3 => Act::On(f.slot, Handle::Enter),
+        4 => Act::On(f.slot, Handle::GoOn),
+        5 => Act::On(f.slot, Handle::Release(f.guard)),
+        6 => Act::On(f.slot, Handle::LookUp(f.guard, f.key)),
+        7 => Act::On(f.slot, Handle::WasDropped),
+        8 => Act::Append(f.kind, f.key, f.amount),
+        9 => Act::Open(Opening::Publish),
+        10 => Act::Open(Opening::Try),
+        11 => Act::Open(Opening::Flush),
+        12 => Act::Open(Opening::Take),
+        13 => Act::Step,
+        15 => Act::Batch(f.amount),
+        _ => Act::Run,
     }
-    if call == 8 {
-        return Act::Append(f.kind, f.key, f.amount);
-    }
-    if call < 13 {
-        let o = opening_of(f);
-        return Act::Open(o);
-    }
-    if call == 13 {
-        return Act::Step;
-    }
-    if call == 15 {
-        return Act::Batch(f.amount);
-    }
-    Act::Run
 }
 
 // The record that begins at byte `at`.

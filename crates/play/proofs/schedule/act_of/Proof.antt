@@ -1,5 +1,5 @@
--- Each return is the rule's at the number that the tests have found.
-use Prim.Native.Nat.{ℕ, _-_, _≤_}
+-- Each arm is the rule's at its number, from 0 on.
+use Prim.Native.Nat.{ℕ, _+_, _-_, _≤_, _<_}
 use mathlib.Core.Path.{_≡_, sym, ap}
 use mathlib.Core.Bool.{Bool, true, false}
 use native.Mathlib.Omega.{arith}
@@ -8,7 +8,7 @@ use lib.Dec.{eqb}
 use Rattle.table.specs.Order.{Op}
 use Rattle.table.proofs.Split.{split}
 use borrow.Author.Tests.{eq-eqb, ne-eqb, eqb-true, eqb-false}
-use lib.ListN.{List·getD-eq-default}
+use lib.ListN.{getD, List·getD-eq-default}
 use Rattle.write.specs.Call.{Run}
 use Rattle.format.specs.declared.Fields.{Fields}
 use Rattle.format.specs.Schedule.{membersIn}
@@ -21,6 +21,9 @@ use Rattle.play.proofs.schedule.act_of.Tie as tie
 none : (f : Fields) → (f .call ≡ 15 → ⊥) → 0 ≡ membersIn f
 none f n = sym (ap (λ (b : Bool). elim b as (λ _. ℕ) [ true ↦ f .amount | false ↦ 0 ]) (ne-eqb (f .call) 15 n))
 
+lone : (f : Fields) (n : ℕ) → n < 14 → f .call - 1 ≡ n → (0 ≡ membersIn f) × ((os : List Op) → getD (callsBy os f) n Run ≡ callOf os f)
+lone f n h e = (none f (λ q. omega (arith, e, q)), by-number f n e)
+
 -- run, and what is no call
 last : (f : Fields) → 14 ≤ f .call → (f .call ≡ 15 → ⊥) → (os : List Op) → Run ≡ callOf os f
 last f h n os =
@@ -29,44 +32,42 @@ last f h n os =
     let past : 15 ≤ f .call - 1 = (let m = eqb-false (f .call) 14 b in omega (arith, m, n)) in
     sym (List·getD-eq-default (callsBy os f) Run past))
 
-returns : tie.Need-returns
-returns c =
-    let f = c .before .before .args .f in
-    (none f (λ e. omega (arith, c .if2 .taken, e)), by-number f 0 (omega (arith, c .if2 .taken)))
+-- none of six in a row
+past :
+    {k n : ℕ} → k ≤ n → (n ≡ k → ⊥) → (n ≡ k + 1 → ⊥) → (n ≡ k + 2 → ⊥) → (n ≡ k + 3 → ⊥) → (n ≡ k + 4 → ⊥) → (n ≡ k + 5 → ⊥) → k + 6 ≤ n
+past h a b c d e f = omega arith
 
-handle-of-requires : tie.Need-handle-of-requires
-handle-of-requires c κs = (c .if2 .left, c .before .if1 .taken)
-
-returns-2 : tie.Need-returns-2
-returns-2 c = (none (c .before .before .before .args .f) (λ e. omega (arith, c .before .before .if1 .taken, e)), c .handle-of .ensures)
-
-returns-3 : tie.Need-returns-3
-returns-3 c =
-    let f = c .before .before .args .f in
-    (none f (λ e. omega (arith, c .if3 .taken, e)), by-number f 7 (omega (arith, c .if3 .taken)))
-
-opening-of-requires : tie.Need-opening-of-requires
-opening-of-requires c κs = (omega (arith, c .before .before .if1 .left, c .before .if3 .left), c .if4 .taken)
-
-returns-4 : tie.Need-returns-4
-returns-4 c = (none (c .before .before .before .before .args .f) (λ e. omega (arith, c .before .if4 .taken, e)), c .opening-of .ensures)
-
-returns-5 : tie.Need-returns-5
-returns-5 c =
-    let f = c .before .before .before .before .args .f in
-    (none f (λ e. omega (arith, c .if5 .taken, e)), by-number f 12 (omega (arith, c .if5 .taken)))
-
-returns-6 : tie.Need-returns-6
-returns-6 c =
-    let f = c .before .before .before .before .before .args .f in (
-      sym (ap (λ (b : Bool). elim b as (λ _. ℕ) [ true ↦ f .amount | false ↦ 0 ]) (eq-eqb (f .call) 15 (c .if6 .taken))),
-      by-number f 14 (omega (arith, c .if6 .taken)),
+returns-13 : tie.Need-returns-13
+returns-13 c =
+    let f = c .before .args .f in (
+      sym (ap (λ (b : Bool). elim b as (λ _. ℕ) [ true ↦ f .amount | false ↦ 0 ]) (eq-eqb (f .call) 15 (c .match .keys13))),
+      by-number f 14 (omega (arith, c .match .keys13)),
     )
 
-returns-7 : tie.Need-returns-7
-returns-7 c =
-    let f = c .before .before .before .before .before .args .f in
-    (none f (c .if6 .left), λ os. last f (omega (arith, c .before .before .if4 .left, c .before .if5 .left)) (c .if6 .left) os)
+returns-15 : tie.Need-returns-15
+returns-15 c =
+    let f = c .before .before .args .f in
+    let r = c .before .match .rest in
+    let s = r .0 .0 .0 .0 .0 .0 .0 in
+    let low : 8 ≤ f .call = past (c .if1 .left) (s .0 .0 .0 .0 .0 .1) (s .0 .0 .0 .0 .1) (s .0 .0 .0 .1) (s .0 .0 .1) (s .0 .1) (s .1) in
+    (none f (r .1), last f (past low (r .0 .0 .0 .0 .0 .0 .1) (r .0 .0 .0 .0 .0 .1) (r .0 .0 .0 .0 .1) (r .0 .0 .0 .1) (r .0 .0 .1) (r .0 .1)) (r .1))
 
 pub act-of-spec : {M : Type 1} → statement M
-act-of-spec = tie.close (tie.spec returns handle-of-requires returns-2 returns-3 opening-of-requires returns-4 returns-5 returns-6 returns-7)
+act-of-spec =
+    tie.close
+    (tie.spec
+    (λ c. lone (c .before .args .f) 1 (omega arith) (omega (arith, c .match .keys1)))
+    (λ c. lone (c .before .args .f) 2 (omega arith) (omega (arith, c .match .keys2)))
+    (λ c. lone (c .before .args .f) 3 (omega arith) (omega (arith, c .match .keys3)))
+    (λ c. lone (c .before .args .f) 4 (omega arith) (omega (arith, c .match .keys4)))
+    (λ c. lone (c .before .args .f) 5 (omega arith) (omega (arith, c .match .keys5)))
+    (λ c. lone (c .before .args .f) 6 (omega arith) (omega (arith, c .match .keys6)))
+    (λ c. lone (c .before .args .f) 7 (omega arith) (omega (arith, c .match .keys7)))
+    (λ c. lone (c .before .args .f) 8 (omega arith) (omega (arith, c .match .keys8)))
+    (λ c. lone (c .before .args .f) 9 (omega arith) (omega (arith, c .match .keys9)))
+    (λ c. lone (c .before .args .f) 10 (omega arith) (omega (arith, c .match .keys10)))
+    (λ c. lone (c .before .args .f) 11 (omega arith) (omega (arith, c .match .keys11)))
+    (λ c. lone (c .before .args .f) 12 (omega arith) (omega (arith, c .match .keys12)))
+    returns-13
+    (λ c. lone (c .before .before .args .f) 0 (omega arith) (omega (arith, c .if1 .taken)))
+    returns-15)
