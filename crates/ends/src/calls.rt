@@ -1,6 +1,7 @@
 // One line: a call that is made and told, a part that is shown, or something that is set up.
 use crate::records;
 use crate::slices;
+use crate::slices::OPS;
 use crate::slices::SPACE;
 use read::Reply;
 use read::State;
@@ -18,20 +19,20 @@ pub struct World {
     log: usize,
 }
 
-// A line's first word has its number in the list of `kind`: 0 start, 1 to 14 the calls of a schedule, 15 to 20 calls on the left slice,
-// 21 the release in place, 22 to 26 parts that are shown, 27 to 29 a slice, 30 lengths and 31 a fresh machine that are set up, 32 to 35
+// A line's first word has its number in the list of `kind`: 0 start, 1 to 15 the calls of a schedule, 16 to 21 calls on the left slice,
+// 22 the release in place, 23 to 27 parts that are shown, 28 to 30 a slice, 31 lengths and 32 a fresh machine that are set up, 33 to 36
 // parts of the state.
-const CALLS: usize = 22;
+const CALLS: usize = 23;
 
-const SLICES: usize = 27;
+const SLICES: usize = 28;
 
-const LENGTHS: usize = 30;
+const LENGTHS: usize = 31;
 
-const FRESH: usize = 31;
+const FRESH: usize = 32;
 
 fn kind(line: &[u8]) -> usize {
     tell::which(
-        b"start create drop enter go-on release look-up was-dropped append publish try flush take step run apply add remove clear close-gap fill leave view pair find used apart left right log lengths fresh set phase slot snapshot",
+        b"start create drop enter go-on release look-up was-dropped append publish try flush take step run extend apply add remove clear close-gap fill leave view pair find used apart left right log lengths fresh set phase slot snapshot",
         word(line, 0),
     )
 }
@@ -57,9 +58,9 @@ fn part<'a>(
     log: &[u64],
 ) -> &'a [u64] {
     match k {
-        22 => machine::view(st, x as usize, j, left, right, log),
-        23 => machine::pair(st, x as usize, j, key, left, right, log),
-        24 => table::look_up(left, x),
+        23 => machine::view(st, x as usize, j, left, right, log),
+        24 => machine::pair(st, x as usize, j, key, left, right, log),
+        25 => table::look_up(left, x),
         _ => table::used(left),
     }
 }
@@ -110,12 +111,12 @@ fn on_state<'a>(
         10 => machine::try_publish(st, left, right, log),
         11 => machine::flush(st, left, right, log),
         12 => machine::take(st, left, right, log),
-        21 => left_by(st, i, j),
-        22..=25 => {
+        22 => left_by(st, i, j),
+        23..=26 => {
             say_part(part(k, x, j, key, st, left, right, log));
             answered(Answer::Done, st)
         }
-        26 => {
+        27 => {
             say_apart(left, right);
             answered(Answer::Done, st)
         }
@@ -124,6 +125,15 @@ fn on_state<'a>(
 }
 
 // ---- all lines
+
+// A batch. Its line names no pattern, so that behind the words that it gives those of a log stay.
+fn extended(line: &[u8], st: State, left: &mut [u64], right: &mut [u64], log: &mut [u64]) -> Reply {
+    let mut ops = [0u64; OPS];
+    slices::set_up(b"ops logged", &mut ops);
+    slices::set_up(line, &mut ops);
+    let n = value(line, 1) as usize;
+    machine::extend(st, slices::first(&ops, n), left, right, log)
+}
 
 fn acted(
     k: usize,
@@ -134,7 +144,7 @@ fn acted(
     log: &mut [u64],
 ) -> Reply {
     match k {
-        0 | 31 => machine::start(left, right, log),
+        0 | 32 => machine::start(left, right, log),
         8 => machine::append(
             st,
             value(line, 1),
@@ -146,10 +156,11 @@ fn acted(
         ),
         13 => machine::step(st, left, right, log),
         14 => machine::run(st, left, right, log),
-        15..=20 => answered(slices::call(k, line, left), st),
-        27 => answered(slices::set_up(line, left), st),
-        28 => answered(slices::set_up(line, right), st),
-        29 => answered(slices::set_up(line, log), st),
+        15 => extended(line, st, left, right, log),
+        16..=21 => answered(slices::call(k, line, left), st),
+        28 => answered(slices::set_up(line, left), st),
+        29 => answered(slices::set_up(line, right), st),
+        30 => answered(slices::set_up(line, log), st),
         _ => on_state(k, line, st, &left[..], &right[..], &log[..]),
     }
 }

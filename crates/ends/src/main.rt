@@ -3,8 +3,9 @@
 // its answer, its value, and every part of the state and every word that it changed. What must come out stands in stdout, and nothing
 // of the rules is used for it.
 //
-// Calls: start, and the fourteen as in a schedule's text; on the left slice apply KIND KEY AMOUNT, add KEY AMOUNT, remove KEY, clear,
-// close-gap GAP WORDS, and fill, which adds every key of a full copy; leave SLOT GUARD, the release in place.
+// Calls: start, and those of a schedule's text, but for the batch: extend COUNT WORD.. lends it as so many words, up to 195, the ones behind
+// those given being of the pattern logged; on the left slice apply KIND KEY AMOUNT, add KEY AMOUNT, remove KEY, clear, close-gap GAP WORDS,
+// and fill, which adds every key of a full copy; leave SLOT GUARD, the release in place.
 // Parts: view SLOT GUARD, pair SLOT GUARD KEY; of the left slice find KEY and used; apart, in how many words left and right differ.
 // Set up: fresh; left, right or log with PATTERN WORD.., the words behind those given being zeros, nines, marks (each its place), full
 // (a full copy), logged (a log that is full but for one operation) or as they were; set FIELD NUMBER; phase NAME POSITION; slot NUMBER free|used EPOCH

@@ -5,6 +5,9 @@ use tell::word;
 // A word more than a copy has, so that a longer slice can be lent.
 pub const SPACE: usize = table::WORDS + 1;
 
+// The words of one operation more than a batch may have.
+pub const OPS: usize = 195;
+
 // ---- patterns
 
 fn key_at(k: usize) -> u64 {
@@ -69,9 +72,21 @@ fn paint(w: &mut [u64], line: &[u8]) {
     }
 }
 
+// A line without the comment behind it, whose words are none of a slice.
+fn bare(line: &[u8]) -> &[u8] {
+    let end = tell::until(line, 0, b'#');
+    &line[0..end]
+}
+
 pub(crate) fn set_up(line: &[u8], w: &mut [u64]) -> Answer {
-    paint(w, line);
+    paint(w, bare(line));
     Answer::Done
+}
+
+// The first words of a slice: so many, or all.
+pub(crate) fn first(w: &[u64], n: usize) -> &[u64] {
+    let m = tell::least(n, w.len());
+    &w[0..m]
 }
 
 // ---- calls on the left slice
@@ -104,11 +119,11 @@ pub(crate) fn call(k: usize, line: &[u8], w: &mut [u64]) -> Answer {
     let x = tell::value(line, 1);
     let y = tell::value(line, 2);
     match k {
-        15 => table::apply(w, x, y, tell::value(line, 3)),
-        16 => table::add(w, x, y),
-        17 => table::drop(w, x),
-        18 => table::clear(w),
-        19 => closed(w, x as usize, y as usize),
+        16 => table::apply(w, x, y, tell::value(line, 3)),
+        17 => table::add(w, x, y),
+        18 => table::drop(w, x),
+        19 => table::clear(w),
+        20 => closed(w, x as usize, y as usize),
         _ => filled(w),
     }
 }

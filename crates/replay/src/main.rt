@@ -14,8 +14,8 @@ const OUTPUT: usize = 32768;
 
 const ENTRY: usize = 9;
 
-// The longest schedule of those that are refused.
-const SHORT: usize = 32;
+// The longest schedule of those that are refused: two records.
+const SHORT: usize = 45;
 
 // What the output holds before a schedule is played, to see what of it was written.
 const MARK: u8 = 165;
@@ -91,14 +91,14 @@ fn say_entry(name: &[u8], s: &[u8], at: usize) {
     say(b" ", number(&s[behind..end]));
 }
 
-// What differs: bytes, and the record whose entry has byte `i`.
+// What differs: bytes, and the entry that has byte `i`.
 fn say_difference(history: u64, played: Played, i: usize, out: &[u8], recorded: &[u8]) {
     let at = i - i % ENTRY;
     say(b"history ", history);
     say(b": answer ", played.answer);
     say(b", bytes ", played.written as u64);
     say(b", recorded ", recorded.len() as u64);
-    say(b"; record ", (i / ENTRY) as u64 + 1);
+    say(b"; entry ", (i / ENTRY) as u64 + 1);
     say_entry(b": ", out, at);
     say_entry(b", recorded ", recorded, at);
     put(b"\n");
@@ -127,10 +127,10 @@ fn replayed(history: u64, schedule: &[u8], recorded: &[u8]) -> bool {
 
 // ---- the sample
 
-fn conclude(histories: u64, records: u64) {
+fn conclude(histories: u64, entries: u64) {
     say(b"", histories);
-    say(b" histories, ", records);
-    put(b" records: as recorded\n");
+    say(b" histories, ", entries);
+    put(b" entries: as recorded\n");
 }
 
 fn cut_short(history: u64) {
@@ -141,7 +141,7 @@ fn cut_short(history: u64) {
 fn replay(s: &[u8]) {
     let mut at = 0;
     let mut histories: usize = 0;
-    let mut records: usize = 0;
+    let mut entries: usize = 0;
     while at < s.len() {
         let schedule = part_at(s, at);
         let from = schedule.start;
@@ -161,10 +161,10 @@ fn replay(s: &[u8]) {
         if !replayed(histories as u64, &s[from..middle], &s[to..end]) {
             return;
         }
-        records += (end - to) / ENTRY;
+        entries += (end - to) / ENTRY;
         at = end;
     }
-    conclude(histories as u64, records as u64);
+    conclude(histories as u64, entries as u64);
 }
 
 fn replay_text(space: &[u8; ROOM], n: usize) {

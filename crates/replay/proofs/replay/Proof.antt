@@ -1,4 +1,4 @@
--- Each history takes more of the sample than it has records, and at least one byte of it.
+-- Each history takes more of the sample than it has entries, and at least one byte of it.
 use Prim.Native.Nat.{_≤_, _-_}
 use lib.ListN.{length}
 use native.Mathlib.Omega.{arith}
@@ -7,10 +7,10 @@ use Rattle.replay.proofs.replay.Statement.{statement}
 use Rattle.replay.proofs.replay.Tie as tie
 
 abbrev Inv-loop : tie.InvT-loop
-Inv-loop s at₀ histories₀ records₀ at histories records = (at ≤ length s) × ((histories ≤ at) × (records ≤ at))
+Inv-loop s at₀ histories₀ entries₀ at histories entries = (at ≤ length s) × ((histories ≤ at) × (entries ≤ at))
 
 abbrev μ-loop : tie.MeasureT-loop
-μ-loop s at₀ histories₀ records₀ at histories records = length s - at
+μ-loop s at₀ histories₀ entries₀ at histories entries = length s - at
 
 pub replay-spec : {M : Type 1} → statement M
 replay-spec =
