@@ -2,6 +2,7 @@
 pub mod Calls
 pub mod Lengths
 pub mod Rule
+pub mod Counted
 pub mod Refusals
 pub mod Run
 pub mod Turned

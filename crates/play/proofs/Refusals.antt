@@ -19,6 +19,7 @@ use Rattle.format.specs.Schedule.{count, startOf, marked, versionOf, membersAt,
 use Rattle.play.specs.Schedule.{callsOf}
 use Rattle.play.specs.Player.{transcript, output, playRule}
 use Rattle.play.specs.Refusals.{Applies, short, unmarked, version, torn, unknown, cut-short, mixed, crowded, amountAt, Outcome, Refusals}
+use Rattle.play.proofs.Counted.{entries-counted, entries-ruled}
 use Rattle.play.proofs.Lengths.{file-length}
 use Rattle.format.proofs.Records.{members-batch, members-none, Good, not-bad-good, bad-cases, marked-long, marked-third, flaw-unmarked, flaw-version, flaw-torn, flaw-whole, flaw-bad, flaw-none}
 use Rattle.play.proofs.Rule.{play-flawed, play-short, play-made}
@@ -64,7 +65,7 @@ module _ (s out : List ℕ) where
   among (unknown i h k) = omega arith
   among (cut-short i h b k) = omega arith
   among (mixed i j b l h k) = omega arith
-  among (crowded h) = omega arith
+  among (crowded n e h) = omega arith
 
   -- a number does not apply where its test is passed
   not-21 : marked s ≡ true → Applies s out 21 → ⊥
@@ -83,7 +84,7 @@ module _ (s out : List ℕ) where
   not-24 good (mixed i j b l h k) = k (good i (omega arith) .appends j (omega (arith, members-batch s (startOf i) b)))
 
   not-25 : 9 * entriesIn s ≤ length out → Applies s out 25 → ⊥
-  not-25 r (crowded h) = omega arith
+  not-25 r (crowded n e h) = omega (arith, entries-ruled s e)
 
   -- no number below a applies
   abbrev From : ℕ → Type 0
@@ -158,7 +159,7 @@ module _ (s out : List ℕ) where
           flawless = ap (λ (f : Flaw). f .answer) (flaw-whole s m v t ∙ flaw-none s u)
 
           too-short : length out < 9 * entriesIn s → Outcome s out (playRule s out)
-          too-short h = refuses (crowded h) from-25 (λ n. play-short s out flawless h)
+          too-short h = refuses (crowded (entriesIn s) (entries-counted s) h) from-25 (λ n. play-short s out flawless h)
 
           done : 9 * entriesIn s ≤ length out → Outcome s out (playRule s out)
           done h =
@@ -170,6 +171,8 @@ module _ (s out : List ℕ) where
                   flawless = λ a f. omega (arith, among f, up from-25 (not-25 h) a f);
                   records = count s;
                   whole = whole;
+                  entries = entriesIn s;
+                  counted = entries-counted s;
                   reported = refl;
                   behind = drop-at w (drop n out) n long;
                   as-long = omega (arith, length-append w (drop n out), length-drop n out, long);

@@ -1,9 +1,9 @@
 -- What refuses a schedule file, said of its bytes, and what a refusal leaves as it was. The player is a parameter.
-use Prim.Native.Nat.{ℕ, _+_, _*_, _≤_, _<_}
+use Prim.Native.Nat.{ℕ, suc, _+_, _*_, _≤_, _<_}
 use mathlib.Core.Path.{_≡_}
 use mathlib.Core.List.{List, [], _∷_}
 use lib.ListN.{length, getD, take, drop}
-use Rattle.format.specs.Schedule.{numberAt, entriesIn}
+use Rattle.format.specs.Schedule.{numberAt}
 use Rattle.play.specs.Player.{Output}
 
 -- a file, and the output as it was, to what comes back
@@ -21,6 +21,12 @@ callAt s i = getD s (5 + 20 * i) 0
 abbrev pub amountAt : List ℕ → ℕ → ℕ
 amountAt s i = numberAt 8 s (5 + 20 * i + 12)
 
+-- from record i on there are n entries: one for each whole record, but none for those that belong to a batch, 15, as many as its amount says
+pub data Entries (s : List ℕ) : ℕ → ℕ → Type 0 where
+  none : (i : ℕ) → (Whole s i → ⊥) → Entries s i 0
+  single : (i n : ℕ) → Whole s i → (callAt s i ≡ 15 → ⊥) → Entries s (i + 1) n → Entries s i (suc n)
+  batch : (i n : ℕ) → Whole s i → callAt s i ≡ 15 → Entries s (i + 1 + amountAt s i) n → Entries s i (suc n)
+
 -- what speaks against a file, by the number that is given for it
 pub data Applies (s out : List ℕ) : ℕ → Type 0 where
   -- shorter than 5 bytes, or without the mark LRT
@@ -37,8 +43,8 @@ pub data Applies (s out : List ℕ) : ℕ → Type 0 where
   -- a batch with a record among those that belong to it that is no append, 8
   mixed :
       (i j : ℕ) → callAt s i ≡ 15 → j < amountAt s i → Whole s (i + 1 + j) → (callAt s (i + 1 + j) ≡ 8 → ⊥) → Applies s out 24
-  -- an output of less than 9 bytes an entry: each whole record has one, but for those that belong to a batch before them
-  crowded : length out < 9 * entriesIn s → Applies s out 25
+  -- an output of less than 9 bytes an entry
+  crowded : (n : ℕ) → Entries s 0 n → length out < 9 * n → Applies s out 25
 
 -- the smallest number that applies, with 0 bytes reported and no byte written
 pub record Refused (s out : List ℕ) (o : Output) : Type 0 where
@@ -53,8 +59,10 @@ pub record Done (s out : List ℕ) (o : Output) : Type 0 where
   pub flawless : (a : ℕ) → Applies s out a → ⊥
   pub records : ℕ
   pub whole : length s ≡ 5 + 20 * records
-  pub reported : o .result .written ≡ 9 * entriesIn s
-  pub behind : drop (9 * entriesIn s) (o .bytes) ≡ drop (9 * entriesIn s) out
+  pub entries : ℕ
+  pub counted : Entries s 0 entries
+  pub reported : o .result .written ≡ 9 * entries
+  pub behind : drop (9 * entries) (o .bytes) ≡ drop (9 * entries) out
   pub as-long : length (o .bytes) ≡ length out
 
 abbrev pub Outcome : List ℕ → List ℕ → Output → Type 0

@@ -1,7 +1,7 @@
 -- Wrong players, each with one part of the right one changed, and for each a proof that the contract's promise (`Promises`) is false of
 -- it: one file, of bytes, where what the player does wrong is read off.
 use Prim.Native.Nat.{ℕ, _+_, _-_, _*_, _/_, _^_, _≤_, min}
-use mathlib.Core.Path.{_≡_, refl, ap}
+use mathlib.Core.Path.{_≡_, refl, ap, _∙_}
 use mathlib.Core.Bool.{true, false, _&&_}
 use mathlib.Core.List.{List, [], _∷_, _++_, map}
 use native.Mathlib.Omega.{arith}
@@ -27,6 +27,7 @@ use Rattle.promises.proofs.format.Wrong.{unknownFirst, nested, cutShort
 use Rattle.play.specs.Schedule.{callOf, opsFrom, decoded}
 use Rattle.play.specs.Player.{refusalOf, Output, output, playRule}
 use Rattle.play.specs.Refusals.{Player, Applies, Refusals}
+use Rattle.play.proofs.Counted.{entries-ruled}
 use Rattle.play.proofs.Computes.{rules}
 use Rattle.play.proofs.Ends.{head, recordOf, create, batchOf, adds, looksUp, p1}
 use Rattle.promises.proofs.play.Promises.{PlayPromise}
@@ -391,10 +392,17 @@ nested-refusals-wrong h =
     h (inside .list) (room .list) .0 refl .flawless 24
     (Applies.mixed 0 0 refl (ltb-true 0 1 refl) (leb-true 45 45 refl) (eqb-false 15 8 refl))
 
+-- the records of a batch are counted with the entries
+memberEntries-refusals-wrong : Refusals (playBy flawOf (λ s. entryBytes * count s) memberEntries) → ⊥
+unfolding rules
+memberEntries-refusals-wrong h =
+    let d = h (two .list) (replicate 81 170) .0 refl in
+    eqb-false 81 63 refl (d .reported ∙ ap (λ (n : ℕ). entryBytes * n) (entries-ruled (two .list) (d .counted)))
+
 -- 25 is given where the entries have room
 byRecords-refusals-wrong : Refusals byRecords → ⊥
 unfolding rules
 byRecords-refusals-wrong h = crowded-room (h (two .list) (room .list) .1 (eqb-false 25 0 refl) .applies)
   where
     crowded-room : Applies (two .list) (room .list) 25 → ⊥
-    crowded-room (Applies.crowded l) = omega arith
+    crowded-room (Applies.crowded n e l) = omega (arith, entries-ruled (two .list) e)
