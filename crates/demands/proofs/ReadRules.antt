@@ -19,8 +19,8 @@ use Rattle.read.specs.declared.Reply.{Reply}
 use Rattle.read.specs.declared.Handle.{Handle}
 use Rattle.read.specs.declared.Handle.the-variants.{LookUp}
 use Rattle.read.specs.Machine.{slotCount, sized, judged, fresh}
-use Rattle.read.specs.Handles.{Sign, smallest, handleSigns, guardedCopy, handled, handleOn}
-use Rattle.read.specs.Calls.{Lent, lent, slotAt, withSlot, refusal, handleReply, handleRule, createReply, createRule, firstFree, throughRule, viewRule, pairRule, startRule}
+use Rattle.read.specs.Handles.{Sign, smallest, handleSigns, madeOf, guardedCopy, handled, handleOn}
+use Rattle.read.specs.Calls.{Lent, lent, slotAt, refusal, replyOf, handleReply, handleRule, createReply, createRule, throughRule, viewRule, pairRule, startRule}
 use Rattle.write.specs.Call.{Create, On}
 use Rattle.write.specs.Machine.{callOn, callRule}
 use Rattle.write.specs.World.{World, reply, worldOf, answerOf, valueOf}
@@ -35,11 +35,11 @@ by-verdict (Refused a) st x l r g = refl
 
 pub one-handle : (i : ℕ) (h : Handle) (st : State) (l r g : List ℕ) → callRule (On i h) st l r g ≡ lent (handleRule i h l r g st) l r g
 unfolding callRule callOn handleRule
-one-handle i h st l r g = by-verdict (judged (st .control) l r g) st (handleReply i h l r st) l r g
+one-handle i h st l r g = by-verdict (judged st l r g) st (handleReply i h l r st) l r g
 
 pub one-create : (st : State) (l r g : List ℕ) → callRule Create st l r g ≡ lent (createRule l r g st) l r g
 unfolding callRule callOn createRule
-one-create st l r g = by-verdict (judged (st .control) l r g) st (createReply (firstFree (st .slots)) st) l r g
+one-create st l r g = by-verdict (judged st l r g) st (createReply st) l r g
 
 -- ---- what a guard shows
 
@@ -53,14 +53,14 @@ module _ (i j key : ℕ) (w : World) where
   -- a look up, and the copy that it is made in, by what both are judged on: words and control part; the slot's number; the slot
   abbrev madeBy : Verdict → Made
   madeBy u =
-      elim u [ Admitted ↦ handled (w .state .control) s (LookUp j key) (w .left) (w .right) | Refused a ↦ record { answer = a; value = 0; slot = s } ]
+      elim u [ Admitted ↦ handled (w .state .control) i s (LookUp j key) (w .left) (w .right) | Refused a ↦ madeOf (w .state .control) a 0 s ]
 
   abbrev replyBy : Verdict → Bool → Verdict → Reply
   replyBy v b u =
       elim v [
         | Admitted ↦
             elim b [
-              | true ↦ record { answer = madeBy u .answer; value = madeBy u .value; state = withSlot i (madeBy u .slot) (w .state) }
+              | true ↦ replyOf i (madeBy u) (w .state)
               | false ↦ refusal answer.NoSlot (w .state)
             ]
         | Refused a ↦ refusal a (w .state)
@@ -97,7 +97,7 @@ module _ (i j key : ℕ) (w : World) where
   joined : Joined (looked .made) (shown i j w)
   unfolding handleRule handleOn throughRule
   joined =
-      let v = judged (w .state .control) (w .left) (w .right) (w .log) in
+      let v = judged (w .state) (w .left) (w .right) (w .log) in
       let signs = handleSigns (w .state .control) (eqb i 0) s (LookUp j key) in
       subst₂ (λ (o : Lent Reply) (u : List Sign). Joined (o .made) (shownBy v (ltb i slotCount) (smallest u)))
       (sym (one-handle i (LookUp j key) (w .state) (w .left) (w .right) (w .log))) (any-key (eqb i 0))

@@ -3,8 +3,9 @@ pub mod Moves
 pub mod Plan
 pub mod Beginnings
 pub mod Control
-pub mod Reader
 pub mod Rows
+pub mod Reader
+pub mod Order
 pub mod Answers
 pub mod Calls
 pub mod Step

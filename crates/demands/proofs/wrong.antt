@@ -4,5 +4,6 @@ pub mod Histories
 pub mod Refusals
 pub mod Demands
 pub mod Follows
+pub mod Reuse
 pub mod Batches
 pub mod Builder

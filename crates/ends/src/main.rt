@@ -9,7 +9,8 @@
 // Parts: view SLOT GUARD, pair SLOT GUARD KEY; of the left slice find KEY and used; apart, in how many words left and right differ.
 // Set up: fresh; left, right or log with PATTERN WORD.., the words behind those given being zeros, nines, marks (each its place), full
 // (a full copy), logged (a log that is full but for one operation) or as they were; set FIELD NUMBER; phase NAME POSITION; slot NUMBER free|used EPOCH
-// none|load|restore GUARDS, a letter for each guard; snapshot NUMBER EPOCH; lengths LEFT RIGHT LOG.
+// none|load|restore GUARDS, a letter for each guard, and then `to NUMBER` where one comes behind it that is not the next; snapshot NUMBER EPOCH;
+// lengths LEFT RIGHT LOG.
 // Numbers are as in tell::number. Any other line is only written.
 mod calls;
 mod records;

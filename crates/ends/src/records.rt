@@ -4,6 +4,7 @@ use read::Due;
 use read::GUARDS;
 use read::Guard;
 use read::Job;
+use read::Link;
 use read::Phase;
 use read::SLOTS;
 use read::Slot;
@@ -18,15 +19,15 @@ use tell::which;
 use tell::word;
 
 // The control part as numbers: the fields that have a name here, and then the phase and its position.
-const NUMBERS: usize = 10;
+const NUMBERS: usize = 11;
 
-const FIELDS: usize = 8;
+const FIELDS: usize = 9;
 
-const PHASE: usize = 8;
+const PHASE: usize = 9;
 
-const POSITION: usize = 9;
+const POSITION: usize = 10;
 
-const FIELD_NAMES: [u8; 46] = *b"side null lock first second length swapped job";
+const FIELD_NAMES: [u8; 51] = *b"side null lock first second length swapped job free";
 
 const PHASE_NAMES: [u8; 83] =
     *b"idle begin poll copy drain keep swap snap null lock last-snap last-poll finish gone";
@@ -100,6 +101,7 @@ fn numbers(c: Control) -> [u64; NUMBERS] {
         c.length as u64,
         c.swapped as u64,
         job_number(j),
+        c.free as u64,
         row(p) as u64,
         position(p),
     ]
@@ -116,6 +118,7 @@ fn control_of(n: [u64; NUMBERS]) -> Control {
         job: job_of(n[7]),
         length: n[5] as usize,
         swapped: n[6] as usize,
+        free: n[8] as usize,
     }
 }
 
@@ -200,14 +203,45 @@ fn due_of(k: usize) -> Due {
     }
 }
 
+// What comes behind a slot: the number behind the word `to`, and else the next.
+fn link_of(line: &[u8]) -> Link {
+    if which(b"to", word(line, 6)) == 0 {
+        return Link::To(value(line, 7) as usize);
+    }
+    Link::Fresh
+}
+
+fn is_fresh(k: Link) -> bool {
+    match k {
+        Link::Fresh => true,
+        Link::To(_) => false,
+    }
+}
+
+fn link_number(k: Link) -> u64 {
+    match k {
+        Link::Fresh => 0,
+        Link::To(j) => j as u64,
+    }
+}
+
+fn same_link(k: Link, l: Link) -> bool {
+    if one_if(is_fresh(k)) != one_if(is_fresh(l)) {
+        return false;
+    }
+    link_number(k) == link_number(l)
+}
+
 fn slot_of(line: &[u8]) -> Slot {
     let d = due_of(which(&DUE_NAMES, word(line, 4)));
     let g = guards_of(word(line, 5));
+    let k = link_of(line);
     Slot {
         used: which(&USE_NAMES, word(line, 2)) == 1,
         epoch: value(line, 3),
         guards: g,
         due: d,
+        link: k,
     }
 }
 
@@ -229,6 +263,11 @@ fn same_slot(s: Slot, t: Slot) -> bool {
     let e = t.due;
     let g = s.guards;
     let h = t.guards;
+    let k = s.link;
+    let l = t.link;
+    if !same_link(k, l) {
+        return false;
+    }
     if due_number(d) != due_number(e) {
         return false;
     }
@@ -254,15 +293,23 @@ fn say_guards(g: [Guard; GUARDS]) {
     }
 }
 
+fn say_link(k: Link) {
+    if !is_fresh(k) {
+        say(b" to ", link_number(k));
+    }
+}
+
 fn say_slot(i: usize, s: Slot) {
     let d = s.due;
     let g = s.guards;
+    let k = s.link;
     say(b", slot ", i as u64);
     put_name(&USE_NAMES, one_if(s.used) as usize);
     say(b" ", s.epoch);
     put_name(&DUE_NAMES, due_number(d));
     put(b" ");
     say_guards(g);
+    say_link(k);
 }
 
 fn say_change(i: usize, s: Slot, t: Slot, x: u64, y: u64) {

@@ -6,7 +6,6 @@ use mathlib.Core.List.{List}
 use Rattle.table.specs.Order.{Op}
 use Rattle.table.specs.declared.Answer.{Answer}
 use Rattle.read.specs.declared.Slot.{Slot}
-use Rattle.read.specs.declared.Control.{Control}
 use Rattle.read.specs.declared.Verdict.{Verdict}
 use Rattle.read.specs.declared.Verdict.the-variants.{Admitted, Refused}
 use Rattle.read.specs.declared.State.{State}
@@ -25,9 +24,9 @@ use Rattle.write.proofs.Judged.{judged-good}
 
 -- ---- what a state that is not refused has
 
-module _ (c : Control) (l r g : List ℕ) where
-  pub judged-whole-control : {v : Verdict} → v ≡ judged c l r g → v ≡ Admitted → wholeControl c ≡ true
-  judged-whole-control h e = whole-control c (judged-good c l r g (sym h ∙ e) .whole)
+module _ (st : State) (l r g : List ℕ) where
+  pub judged-whole-control : {v : Verdict} → v ≡ judged st l r g → v ≡ Admitted → wholeControl (st .control) ≡ true
+  judged-whole-control h e = whole-control (st .control) (judged-good st l r g (sym h ∙ e) .whole)
 
 -- ---- a call, by its verdict
 
@@ -35,7 +34,7 @@ module _ (k : Call) (st : State) (l r g : List ℕ) where
   abbrev Rule : Verdict → Lent Reply
   Rule v = elim v [ Admitted ↦ callOn k st l r g | Refused a ↦ lent (refusal a st) l r g ]
 
-  module _ {v : Verdict} (h : v ≡ judged (st .control) l r g) where
+  module _ {v : Verdict} (h : v ≡ judged st l r g) where
     pub call-refused : {a : Answer} {q : Reply} → v ≡ Refused a → q ≡ refusal a st → lent q l r g ≡ callRule k st l r g
     unfolding callRule
     call-refused e x = ap (λ (q : Reply). lent q l r g) x ∙ ap Rule (sym e ∙ h)
@@ -46,7 +45,7 @@ module _ (k : Call) (st : State) (l r g : List ℕ) where
 
 -- ---- one that is admitted
 
-module _ (st : State) (l r g : List ℕ) {v : Verdict} (j : v ≡ judged (st .control) l r g) (y : v ≡ Admitted) where
+module _ (st : State) (l r g : List ℕ) {v : Verdict} (j : v ≡ judged st l r g) (y : v ≡ Admitted) where
   -- made at slot 0, and put back
   pub append-made :
       (os : List Op) {s : Slot} {m : Moved} {q : Reply} {l' r' g' : List ℕ} →

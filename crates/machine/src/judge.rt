@@ -1,11 +1,13 @@
-// What every call is judged on: lengths, entry counts, the control part and the log.
+// What every call is judged on: lengths, entry counts, the control part, the log, and the order of the free slots.
 use read::Control;
 use read::LOG_ROOM;
 use read::LOG_WORDS;
 use read::Phase;
 use read::SLOTS;
+use read::State;
 use read::Verdict;
 use read::admission::locks;
+use read::order;
 use read::truth::same;
 use table::Answer;
 ghost use mathlib.Core.Path.{_≡_};
@@ -103,7 +105,7 @@ pub(crate) fn sized(left: &[u64], right: &[u64], log: &[u64]) -> bool
     )
 }
 
-// Lengths, entry counts and the control part: all but the walk over the log.
+// Lengths, entry counts and the control part: all but the walks over the log and over the free slots.
 fn glance(c: Control, left: &[u64], right: &[u64], log: &[u64]) -> Verdict
     ensures { λ r. ⌜ r ≡ glanced c (now (left .entry)) (now (right .entry)) (now (log .entry)) ⌝ }
 {
@@ -117,15 +119,16 @@ fn glance(c: Control, left: &[u64], right: &[u64], log: &[u64]) -> Verdict
 }
 
 // What every call on the machine is judged on.
-pub(crate) fn judge(c: Control, left: &[u64], right: &[u64], log: &[u64]) -> Verdict
-    ensures { λ r. ⌜ r ≡ judged c (now (left .entry)) (now (right .entry)) (now (log .entry)) ⌝ }
+pub(crate) fn judge(st: State, left: &[u64], right: &[u64], log: &[u64]) -> Verdict
+    ensures { λ r. ⌜ r ≡ judged st (now (left .entry)) (now (right .entry)) (now (log .entry)) ⌝ }
 {
+    let c = st.control;
     let v = glance(c, left, right, log);
     match v {
         Verdict::Refused(a) => Verdict::Refused(a),
         Verdict::Admitted => {
             let n = c.length;
-            if n <= first_unlawful(n, log) {
+            if both(n <= first_unlawful(n, log), order::orderly(st)) {
                 Verdict::Admitted
             } else {
                 Verdict::Refused(Answer::Broken)

@@ -5,8 +5,11 @@ mod reads;
 mod runs;
 mod writes;
 
+use read::Control;
 use read::Handle;
 use read::Reply;
+use read::SLOTS;
+use read::Slot;
 use read::State;
 use read::Verdict;
 use table::Answer;
@@ -23,6 +26,28 @@ pub(crate) fn refusal(a: Answer, st: State) -> Reply
     Reply {
         answer: a,
         value: 0,
+        state: st,
+    }
+}
+
+// A reply that hands back a state made anew.
+pub(crate) fn replied(
+    a: Answer,
+    value: u64,
+    c: Control,
+    slots: [Slot; SLOTS],
+    snaps: [u64; SLOTS],
+) -> Reply
+    ensures { λ r. ⌜ r ≡ record { answer = a; value = value; state = record { control = c; slots = slots; snapshots = snaps } } ⌝ }
+{
+    let st = State {
+        control: c,
+        slots: slots,
+        snapshots: snaps,
+    };
+    Reply {
+        answer: a,
+        value: value,
         state: st,
     }
 }
@@ -49,18 +74,14 @@ pub fn start(left: &mut [u64], right: &mut [u64], log: &mut [u64]) -> Reply
 
 // ---- on a handle
 
-// Hands out the lowest free slot: a new handle, with epoch 0. The slot's snapshot stays.
+// Hands out the slot freed last, or the lowest never used where none is free: a new handle, with epoch 0. The slot's snapshot stays.
 pub fn create(st: State, left: &[u64], right: &[u64], log: &[u64]) -> Reply
     ensures { λ r. ⌜ r ≡ createRule (now (left .entry)) (now (right .entry)) (now (log .entry)) st ⌝ }
 {
-    let c = st.control;
-    let v = judge::judge(c, left, right, log);
+    let v = judge::judge(st, left, right, log);
     match v {
         Verdict::Refused(a) => refusal(a, st),
-        Verdict::Admitted => {
-            let slots = st.slots;
-            reads::create_reply(reads::first_free(slots), st)
-        }
+        Verdict::Admitted => reads::create_reply(st),
     }
 }
 
@@ -164,10 +185,10 @@ pub fn pair<'a>(
 pub fn extend(st: State, ops: &[u64], left: &mut [u64], right: &mut [u64], log: &mut [u64]) -> Reply
     ensures { λ r. ⌜ lent r (now (left .exit)) (now (right .exit)) (now (log .exit)) ≡ callRule (Append (opsIn (now (ops .entry)))) st (now (left .entry)) (now (right .entry)) (now (log .entry)) ⌝ }
 {
-    let c = st.control;
-    let v = judge::judge(c, &left[..], &right[..], &log[..]);
+    let v = judge::judge(st, &left[..], &right[..], &log[..]);
     match v {
         Verdict::Admitted => {
+            let c = st.control;
             let snaps = st.snapshots;
             let m = begins::extend_on(ops, c, read::slot_at(st, 0), snaps[0], left, right, log);
             writes::put_back(0, st, m)

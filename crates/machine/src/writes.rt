@@ -1,6 +1,7 @@
 // What a call of the writer does, once the words are judged.
 use crate::judge;
 use crate::refusal;
+use crate::replied;
 use crate::runs;
 use read::Reply;
 use read::SLOTS;
@@ -29,26 +30,17 @@ pub(crate) fn put_back(i: usize, st: State, m: Moved) -> Reply
     slots[i] = t;
     snaps[i] = m.snapshot;
     let c = m.control;
-    let after = State {
-        control: c,
-        slots: slots,
-        snapshots: snaps,
-    };
     let a = m.answer;
-    Reply {
-        answer: a,
-        value: m.value,
-        state: after,
-    }
+    replied(a, m.value, c, slots, snaps)
 }
 
 pub(crate) fn begin(o: Opening, st: State, left: &[u64], right: &[u64], log: &[u64]) -> Reply
     ensures { λ r. ⌜ lent r (now (left .entry)) (now (right .entry)) (now (log .entry)) ≡ callRule (Open o) st (now (left .entry)) (now (right .entry)) (now (log .entry)) ⌝ }
 {
-    let c = st.control;
-    let v = judge::judge(c, left, right, log);
+    let v = judge::judge(st, left, right, log);
     match v {
         Verdict::Admitted => {
+            let c = st.control;
             let snaps = st.snapshots;
             let m = begins::open_on(o, c, read::slot_at(st, 0), snaps[0]);
             put_back(0, st, m)
@@ -88,8 +80,7 @@ pub(crate) fn go(
 ) -> Reply
     ensures { λ r. ⌜ lent r (now (left .exit)) (now (right .exit)) (now (log .exit)) ≡ callRule (goes run) st (now (left .entry)) (now (right .entry)) (now (log .entry)) ⌝ }
 {
-    let c = st.control;
-    let v = judge::judge(c, &left[..], &right[..], &log[..]);
+    let v = judge::judge(st, &left[..], &right[..], &log[..]);
     match v {
         Verdict::Admitted => admitted(run, st, left, right, log),
         Verdict::Refused(a) => refusal(a, st),

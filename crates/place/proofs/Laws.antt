@@ -1,6 +1,6 @@
 -- The release of one record is the machine's release: where the phase admits the call, a call on the handle answers and leaves the same.
 use mathlib.Core.Path.{_≡_, refl, _∙_}
-use mathlib.Core.Bool.{Bool, false, not, _||_}
+use mathlib.Core.Bool.{false, not, _||_}
 use mathlib.Core.List.{List, [], _∷_}
 use Prim.Native.Nat.{ℕ}
 use lib.Dec.{eqb}
@@ -13,12 +13,13 @@ use Rattle.read.specs.declared.Verdict.{Verdict}
 use Rattle.read.specs.declared.Verdict.the-variants.{Admitted, Refused}
 use Rattle.read.specs.Machine.{isOpen}
 use Rattle.read.specs.Admission.{column, entry}
-use Rattle.read.specs.Handles.{sign, smallest, released, handled, handleOn}
+use Rattle.read.specs.Handles.{sign, smallest, madeOf, released, handled, handleOn}
 use Rattle.place.specs.declared.Released.{Released}
 use Rattle.place.specs.Release.{releaseSigns, releaseRule}
 
-abbrev made : Released → Made
-made r = record { answer = r .answer; value = 0; slot = r .slot }
+-- the same slot is handed out next
+abbrev made : Control → Released → Made
+made c r = madeOf c (r .answer) 0 (r .slot)
 
 -- the verdict on a release, by the entry of the table
 abbrev verdict : ℕ → ℕ → Slot → Verdict
@@ -32,18 +33,18 @@ verdict e j s =
     ∷ sign FourGuards false
     ∷ [])
 
-module _ (c : Control) (own : Bool) (j : ℕ) (s : Slot) (l r : List ℕ) (admitted : entry (c .phase) (column (Release j) own) ≡ 0) where
+module _ (c : Control) (n j : ℕ) (s : Slot) (l r : List ℕ) (admitted : entry (c .phase) (column (Release j) (eqb n 0)) ≡ 0) where
   abbrev answered : Verdict → Made
-  answered v = elim v [ Admitted ↦ handled c s (Release j) l r | Refused a ↦ record { answer = a; value = 0; slot = s } ]
+  answered v = elim v [ Admitted ↦ handled c n s (Release j) l r | Refused a ↦ madeOf c a 0 s ]
 
   abbrev ruled : Verdict → Released
   ruled v = elim v [ Admitted ↦ record { answer = Done; slot = released j s } | Refused a ↦ record { answer = a; slot = s } ]
 
-  by-verdict : (v : Verdict) → answered v ≡ made (ruled v)
+  by-verdict : (v : Verdict) → answered v ≡ made c (ruled v)
   unfolding handled
   by-verdict Admitted = refl
   by-verdict (Refused a) = refl
 
-  pub release-as-handle : handleOn c own s (Release j) l r ≡ made (releaseRule j s)
+  pub release-as-handle : handleOn c n s (Release j) l r ≡ made c (releaseRule j s)
   unfolding handleOn releaseRule smallest
   release-as-handle = (λ i. answered (verdict (admitted i) j s)) ∙ by-verdict (smallest (releaseSigns j s))

@@ -1,12 +1,13 @@
 -- Step and run, step by step: what is known of a call that is under way, before each step and behind the last.
 use Prim.Native.Nat.{ℕ, suc, _+_, _-_, _<_}
 use mathlib.Core.Path.{_≡_, refl, sym, ap, subst, _∙_}
-use mathlib.Core.Bool.{Bool, true, false, not, true≢false}
+use mathlib.Core.Bool.{Bool, true, false, not, Bool·beq, true≢false}
 use mathlib.Core.List.{List}
 use native.Mathlib.Omega.{arith}
-use borrow.Author.Tests.{eqb-true, eqb-false}
+use borrow.Author.Tests.{eqb-true, eqb-false, not-true, not-false}
 use lib.Dec.{eqb}
 use lib.ListN.{getD, set}
+use lib.Seq.{set-getD}
 use Rattle.table.specs.Answers.{number}
 use Rattle.table.specs.declared.Answer.{Answer}
 use Rattle.table.specs.declared.Answer.the-variants as answer
@@ -23,7 +24,7 @@ use Rattle.read.specs.declared.Verdict.{Verdict}
 use Rattle.read.specs.declared.Verdict.the-variants.{Admitted, Refused}
 use Rattle.read.specs.Machine.{slotTotal, noSlot, underway, isGone, place}
 use Rattle.read.specs.Admission.{entry, notNow}
-use Rattle.read.specs.Handles.{bit, smallest}
+use Rattle.read.specs.Handles.{freed, bit, smallest}
 use Rattle.read.specs.Calls.{Lent, lent, refusal}
 use Rattle.write.specs.declared.Moved.{Moved}
 use Rattle.table.specs.Order.{Op}
@@ -291,119 +292,128 @@ module _ {o : Lent Reply} {run : Bool} {n : ℕ} {c : Control} {ss : List Slot} 
     (h : Sound (stateOf c ss es) l r g) {i : ℕ} (p : i ≡ place (c .phase)) {s : Slot} (q : s ≡ getD ss i noSlot) {m : Moved} {l' r' g' : List ℕ}
     (x : lent m l' r' g' ≡ stepAt (c .phase) c s (getD es i 0) l r g)
   where
-    abbrev to : State
-    to = stateOf (m .control) (set ss i (usedAs s (m .slot))) (set es i (m .snapshot))
+    -- its slot is put back where it differs in use
+    leaves : {b : Bool} → Bool·beq (s .used) (m .slot .used) ≡ b → m .slot ≡ elim b [ true ↦ s | false ↦ freed (c .free) s ]
+    leaves u =
+        subst (λ (w : Lent Moved). w .made .slot ≡ usedAs (c .free) s (w .made .slot)) (sym x) (step-slot c s (getD es i 0) l r g (c .phase))
+        ∙ ap (λ (b : Bool). elim b [ true ↦ s | false ↦ freed (c .free) s ]) u
 
-    -- what the step gave, put back
-    stepped : stepOn (stateOf c ss es) l r g ≡ lent (record { answer = m .answer; value = m .value; state = to }) l' r' g'
-    unfolding stepOn
-    stepped =
-        let back : m .slot ≡ usedAs s (m .slot) =
-        subst (λ (w : Lent Moved). w .made .slot ≡ usedAs s (w .made .slot)) (sym x) (step-slot c s (getD es i 0) l r g (c .phase)) in
-        ap
-        (λ (i : ℕ). lift i (stateOf c ss es) (stepAt (c .phase) c (getD ss i noSlot) (getD es i 0) l r g)) (sym p)
-        ∙ ap (λ (t : Slot). lift i (stateOf c ss es) (stepAt (c .phase) c t (getD es i 0) l r g)) (sym q)
-        ∙ ap (lift i (stateOf c ss es)) (sym x)
-        ∙ ap
-        (λ (t : Slot).
-        lent
-        (record { answer = m .answer; value = m .value; state = stateOf (m .control) (set ss i t) (set es i (m .snapshot)) })
-        l' r' g')
-        back
+    pub put-same : not (Bool·beq (s .used) (m .slot .used)) ≡ false → ss ≡ set ss i (m .slot)
+    put-same u = sym (ap (set ss i) (leaves (not-false _ u) ∙ q) ∙ set-getD ss i noSlot)
 
-    pub sound-after : Sound to l' r' g'
-    sound-after =
-        subst (λ (w : Lent Reply). Sound (w .made .state) (w .left) (w .right) (w .log)) stepped (sound-step (stateOf c ss es) l r g h)
+    pub put-other : not (Bool·beq (s .used) (m .slot .used)) ≡ true → {t : Slot} → t ≡ freed (c .free) s → set ss i t ≡ set ss i (m .slot)
+    put-other u y = ap (set ss i) (y ∙ sym (leaves (not-true _ u)))
 
-    pub next-slot : {k : ℕ} (d : Slot) → k < slotTotal → getD (to .slots) k d ≡ getD (to .slots) k noSlot
-    next-slot d b = read-slot (to .slots) d (sound-after .slots) b
+    module _ {ts : List Slot} (w : ts ≡ set ss i (m .slot)) where
+      abbrev to : State
+      to = stateOf (m .control) ts (set es i (m .snapshot))
 
-    -- what it says of the count and of the call
-    lowers : number (m .answer) ≡ 0 → left c ≡ suc (left (m .control))
-    lowers z =
-        subst (λ (w : Lent Moved). number (w .made .answer) ≡ 0 → left c ≡ suc (left (w .made .control))) (sym x)
-        (step-lowers c s (getD es i 0) (h .good .whole) l r g) z
+      -- what the step gave, put back
+      stepped : stepOn (stateOf c ss es) l r g ≡ lent (record { answer = m .answer; value = m .value; state = to }) l' r' g'
+      unfolding stepOn
+      stepped =
+          ap
+          (λ (i : ℕ). lift i (stateOf c ss es) (stepAt (c .phase) c (getD ss i noSlot) (getD es i 0) l r g)) (sym p)
+          ∙ ap (λ (t : Slot). lift i (stateOf c ss es) (stepAt (c .phase) c t (getD es i 0) l r g)) (sym q)
+          ∙ ap (lift i (stateOf c ss es)) (sym x)
+          ∙ ap
+          (λ (ts : List Slot).
+          lent (record { answer = m .answer; value = m .value; state = stateOf (m .control) ts (set es i (m .snapshot)) }) l' r' g')
+          (sym w)
 
-    tells : m .value ≡ bit (not (underway (m .control .phase)))
-    tells =
-        subst (λ (w : Lent Moved). w .made .value ≡ bit (not (underway (w .made .control .phase)))) (sym x)
-        (step-value c (v .busy) s (getD es i 0) l r g)
+      pub sound-after : Sound to l' r' g'
+      sound-after =
+          subst (λ (w : Lent Reply). Sound (w .made .state) (w .left) (w .right) (w .log)) stepped (sound-step (stateOf c ss es) l r g h)
 
-    goes-on : m .value ≡ 0 → underway (m .control .phase) ≡ true
-    goes-on z =
-        split (underway (m .control .phase)) (λ u. u) (λ u. absurd (omega (arith, tells ∙ ap (λ (b : Bool). bit (not b)) u)))
+      pub next-slot : {k : ℕ} (d : Slot) → k < slotTotal → getD (to .slots) k d ≡ getD (to .slots) k noSlot
+      next-slot d b = read-slot (to .slots) d (sound-after .slots) b
 
-    ended : (m .value ≡ 0 → ⊥) → underway (m .control .phase) ≡ false
-    ended z =
-        split (underway (m .control .phase)) (λ u. absurd (z (tells ∙ ap (λ (b : Bool). bit (not b)) u))) (λ u. u)
+      -- what it says of the count and of the call
+      lowers : number (m .answer) ≡ 0 → left c ≡ suc (left (m .control))
+      lowers z =
+          subst (λ (w : Lent Moved). number (w .made .answer) ≡ 0 → left c ≡ suc (left (w .made .control))) (sym x)
+          (step-lowers c s (getD es i 0) (h .good .whole) l r g) z
 
-    module _ (y : run ≡ true) where
-      unrolled : o ≡ afterStep (runFrom (n + 1)) n (lent (record { answer = m .answer; value = m .value; state = to }) l' r' g')
-      unrolled =
-          v .same ∙ ap (λ (b : Bool). due b n (stateOf c ss es) l r g) y
-          ∙ run-unrolls (stateOf c ss es) l r g n (h .good .whole) (v .busy) ∙ ap (afterStep (runFrom (n + 1)) n) stepped
+      tells : m .value ≡ bit (not (underway (m .control .phase)))
+      tells =
+          subst (λ (w : Lent Moved). w .made .value ≡ bit (not (underway (w .made .control .phase)))) (sym x)
+          (step-value c (v .busy) s (getD es i 0) l r g)
 
-      run-made : number (m .answer) ≡ 0 → o ≡ runFrom (n + 1) to l' r' g'
-      run-made z = unrolled ∙ rw (z, afterStep)
+      goes-on : m .value ≡ 0 → underway (m .control .phase) ≡ true
+      goes-on z =
+          split (underway (m .control .phase)) (λ u. u) (λ u. absurd (omega (arith, tells ∙ ap (λ (b : Bool). bit (not b)) u)))
 
-      run-stopped : (a : ℕ) → number (m .answer) ≡ suc a → o ≡ lent (record { answer = m .answer; value = n; state = to }) l' r' g'
-      run-stopped a z = unrolled ∙ rw (z, afterStep)
+      ended : (m .value ≡ 0 → ⊥) → underway (m .control .phase) ≡ false
+      ended z =
+          split (underway (m .control .phase)) (λ u. absurd (z (tells ∙ ap (λ (b : Bool). bit (not b)) u))) (λ u. u)
 
-    abbrev next : Answer
-    next = haltOf (m .control) (hereSlot (m .control) (to .slots)) (hereSnap (m .control) (to .snapshots))
+      module _ (y : run ≡ true) where
+        unrolled : o ≡ afterStep (runFrom (n + 1)) n (lent (record { answer = m .answer; value = m .value; state = to }) l' r' g')
+        unrolled =
+            v .same ∙ ap (λ (b : Bool). due b n (stateOf c ss es) l r g) y
+            ∙ run-unrolls (stateOf c ss es) l r g n (h .good .whole) (v .busy) ∙ ap (afterStep (runFrom (n + 1)) n) stepped
 
-    -- it goes on only behind a step that was made
-    abbrev Behind : Far → Type 0
-    Behind f = Going o run f (m .control) (to .slots) (to .snapshots) l' r' g' × (f .goes ≡ true → left (m .control) < left c)
+        run-made : number (m .answer) ≡ 0 → o ≡ runFrom (n + 1) to l' r' g'
+        run-made z = unrolled ∙ rw (z, afterStep)
 
-    over-behind : {f : Far} → f .goes ≡ false → Said o f (m .control) (to .slots) (to .snapshots) l' r' g' → Behind f
-    over-behind e d =
-        (record { sound = sound-after; goes = λ b. absurd (true≢false (sym b ∙ e)); ends = λ b. d }, λ b. absurd (true≢false (sym b ∙ e)))
+        run-stopped : (a : ℕ) → number (m .answer) ≡ suc a → o ≡ lent (record { answer = m .answer; value = n; state = to }) l' r' g'
+        run-stopped a z = unrolled ∙ rw (z, afterStep)
 
-    ran-value :
-        run ≡ true → number (m .answer) ≡ 0 → (b : Bool) → eqb (m .value) 0 ≡ b →
-        Behind (elim b [ true ↦ facing (n + 1) next | false ↦ far false answer.Done (n + 1) ])
-    ran-value y z true d =
-        let u = goes-on (eqb-true (m .value) 0 d) in
-        let e : o ≡ due run (n + 1) to l' r' g' = run-made y z ∙ ap (λ (b : Bool). due b (n + 1) to l' r' g') (sym y) in (
-          faces (n + 1) (m .control) (to .slots) (to .snapshots) l' r' g' sound-after run (λ w. e)
-              (λ w.
-              e
-              ∙ due-halted (n + 1) (m .control) (to .slots) (to .snapshots) l' r' g' sound-after run
-              (λ b. absurd (true≢false (sym y ∙ b))) u w)
-              (omega (arith, lowers z, v .few)),
-          λ b. omega (arith, lowers z),
-        )
-    ran-value y z false d =
-        over-behind refl
-        (said (run-made y z ∙ run-over to l' r' g' (n + 1) (ended (eqb-false (m .value) 0 d))) refl refl)
+      abbrev next : Answer
+      next = haltOf (m .control) (hereSlot (m .control) (to .slots)) (hereSnap (m .control) (to .snapshots))
 
-    ran : run ≡ true → (b : Bool) → eqb (number (m .answer)) 0 ≡ b →
-        Behind
-        (elim b [
-          | true ↦ elim (eqb (m .value) 0) [ true ↦ facing (n + 1) next | false ↦ far false answer.Done (n + 1) ]
-          | false ↦ far false (m .answer) n
-        ])
-    ran y true d = ran-value y (eqb-true (number (m .answer)) 0 d) (eqb (m .value) 0) refl
-    ran y false d =
-        let z = eqb-false (number (m .answer)) 0 d in
-        over-behind refl (said (run-stopped y (number (m .answer) - 1) (omega arith)) refl refl)
+      -- it goes on only behind a step that was made
+      abbrev Behind : Far → Type 0
+      Behind f = Going o run f (m .control) (to .slots) (to .snapshots) l' r' g' × (f .goes ≡ true → left (m .control) < left c)
 
-    went : (b : Bool) → run ≡ b → Behind (wentOn b n m next)
-    went true y = ran y (eqb (number (m .answer)) 0) refl
-    went false y =
-        over-behind refl (said (v .same ∙ ap (λ (b : Bool). due b n (stateOf c ss es) l r g) y ∙ stepped) refl refl)
+      over-behind : {f : Far} → f .goes ≡ false → Said o f (m .control) (to .slots) (to .snapshots) l' r' g' → Behind f
+      over-behind e d =
+          (record { sound = sound-after; goes = λ b. absurd (true≢false (sym b ∙ e)); ends = λ b. d }, λ b. absurd (true≢false (sym b ∙ e)))
 
-    -- the next step looks at slot k
-    pub going-steps :
-        {k : ℕ} → k ≡ place (m .control .phase) → {t : Slot} → t ≡ getD (to .slots) k noSlot → {f : Far} →
-        f ≡ wentOn run n m (haltOf (m .control) t (getD (to .snapshots) k 0)) → Behind f
-    going-steps {k} a b d =
-        subst Behind
-        (sym
-        (d ∙ ap (λ (t : Slot). wentOn run n m (haltOf (m .control) t (getD (to .snapshots) k 0))) b
-        ∙ ap (λ (k : ℕ). wentOn run n m (haltOf (m .control) (getD (to .slots) k noSlot) (getD (to .snapshots) k 0))) a))
-        (went run refl)
+      ran-value :
+          run ≡ true → number (m .answer) ≡ 0 → (b : Bool) → eqb (m .value) 0 ≡ b →
+          Behind (elim b [ true ↦ facing (n + 1) next | false ↦ far false answer.Done (n + 1) ])
+      ran-value y z true d =
+          let u = goes-on (eqb-true (m .value) 0 d) in
+          let e : o ≡ due run (n + 1) to l' r' g' = run-made y z ∙ ap (λ (b : Bool). due b (n + 1) to l' r' g') (sym y) in (
+            faces (n + 1) (m .control) (to .slots) (to .snapshots) l' r' g' sound-after run (λ w. e)
+                (λ w.
+                e
+                ∙ due-halted (n + 1) (m .control) (to .slots) (to .snapshots) l' r' g' sound-after run
+                (λ b. absurd (true≢false (sym y ∙ b))) u w)
+                (omega (arith, lowers z, v .few)),
+            λ b. omega (arith, lowers z),
+          )
+      ran-value y z false d =
+          over-behind refl
+          (said (run-made y z ∙ run-over to l' r' g' (n + 1) (ended (eqb-false (m .value) 0 d))) refl refl)
+
+      ran : run ≡ true → (b : Bool) → eqb (number (m .answer)) 0 ≡ b →
+          Behind
+          (elim b [
+            | true ↦ elim (eqb (m .value) 0) [ true ↦ facing (n + 1) next | false ↦ far false answer.Done (n + 1) ]
+            | false ↦ far false (m .answer) n
+          ])
+      ran y true d = ran-value y (eqb-true (number (m .answer)) 0 d) (eqb (m .value) 0) refl
+      ran y false d =
+          let z = eqb-false (number (m .answer)) 0 d in
+          over-behind refl (said (run-stopped y (number (m .answer) - 1) (omega arith)) refl refl)
+
+      went : (b : Bool) → run ≡ b → Behind (wentOn b n m next)
+      went true y = ran y (eqb (number (m .answer)) 0) refl
+      went false y =
+          over-behind refl (said (v .same ∙ ap (λ (b : Bool). due b n (stateOf c ss es) l r g) y ∙ stepped) refl refl)
+
+      -- the next step looks at slot k
+      pub going-steps :
+          {k : ℕ} → k ≡ place (m .control .phase) → {t : Slot} → t ≡ getD (to .slots) k noSlot → {f : Far} →
+          f ≡ wentOn run n m (haltOf (m .control) t (getD (to .snapshots) k 0)) → Behind f
+      going-steps {k} a b d =
+          subst Behind
+          (sym
+          (d ∙ ap (λ (t : Slot). wentOn run n m (haltOf (m .control) t (getD (to .snapshots) k 0))) b
+          ∙ ap (λ (k : ℕ). wentOn run n m (haltOf (m .control) (getD (to .slots) k noSlot) (getD (to .snapshots) k 0))) a))
+          (went run refl)
 
 -- how many steps a call may still make
 abbrev pub ahead : Far → Control → ℕ

@@ -55,5 +55,5 @@ module _ {st : State} (e : st ≡ fresh) where
   pub fresh-world : machine st (replicate words 0) (replicate words 0) (replicate logWords 0) ≡ freshWorld
   fresh-world = ap (λ (st : State). machine st (replicate words 0) (replicate words 0) (replicate logWords 0)) e
 
-  pub fresh-whole : judged (st .control) (replicate words 0) (replicate words 0) (replicate logWords 0) ≡ Admitted
-  fresh-whole = subst (λ (w : World). judged (w .state .control) (w .left) (w .right) (w .log) ≡ Admitted) (sym fresh-world) (sound-judged sound-fresh)
+  pub fresh-whole : judged st (replicate words 0) (replicate words 0) (replicate logWords 0) ≡ Admitted
+  fresh-whole = subst (λ (w : World). judged (w .state) (w .left) (w .right) (w .log) ≡ Admitted) (sym fresh-world) (sound-judged sound-fresh)

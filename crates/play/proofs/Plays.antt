@@ -19,7 +19,7 @@ use Rattle.write.specs.Call.{Call}
 use Rattle.table.specs.Order.{Op}
 use Rattle.write.specs.Machine.{callOn, callRule}
 use Rattle.write.specs.World.{World, worldOf, answerOf, valueOf, Played, answering, played}
-use Rattle.write.proofs.Judged.{judged-good}
+use Rattle.write.proofs.Judged.{judged-good, judged-orderly}
 use Rattle.write.proofs.NeverBroken.{Sound, call-made, sound-call}
 use Rattle.play.specs.declared.turns.Far.{Far}
 use Rattle.play.specs.declared.Reached.{Reached}
@@ -30,13 +30,13 @@ use Rattle.play.specs.Schedule.{decoded, callsIn}
 use Rattle.play.specs.Player.{transcript, machine}
 use Rattle.play.specs.Turns.{meant, named, isGoing, turnOn, over}
 use Rattle.play.specs.declared.schedule.Act.{Act}
-use Rattle.play.proofs.Turned.{sought, within, putSlot, turn-made}
+use Rattle.play.proofs.Turned.{within, putSlot, turn-made}
 use Rattle.play.proofs.Going.{Said, said}
 use Rattle.read.proofs.Cases.{stateOf}
 
 -- a call that takes one turn: what its move says, its slot being put back
 pub turn-said :
-    (os : List Op) (k : Act) → isGoing k ≡ false → (c : Control) (ss : List Slot) (es l r g : List ℕ) {i : ℕ} → i ≡ sought k ss (named k) →
+    (os : List Op) (k : Act) → isGoing k ≡ false → (c : Control) (ss : List Slot) (es l r g : List ℕ) {i : ℕ} → i ≡ named k (c .free) →
     {s : Slot} → s ≡ getD ss (within i) noSlot → {m : Moved} {l' r' g' : List ℕ} → lent m l' r' g' ≡ turnOn (meant os k) i c s l r g →
     Said (callOn (meant os k) (stateOf c ss es) l r g) (over m) (m .control) (set ss (within i) (m .slot)) es l' r' g'
 turn-said os k p c ss es l r g {i} e q x =
@@ -71,9 +71,10 @@ pub record Plays (s out₀ whole : List ℕ) (end : World) (out : List ℕ) (fro
     pub ends : rest s from (machine (stateOf c ss es) l r g) .world ≡ end
 
 -- a machine that is whole
-pub sound-judged : (st : State) (l r g : List ℕ) → judged (st .control) l r g ≡ Admitted → length (st .slots) ≡ slotCount →
+pub sound-judged : (st : State) (l r g : List ℕ) → judged st l r g ≡ Admitted → length (st .slots) ≡ slotCount →
     length (st .snapshots) ≡ slotCount → Sound st l r g
-sound-judged st l r g h x y = record { good = judged-good (st .control) l r g h; slots = x; snapshots = y }
+sound-judged st l r g h x y =
+    record { good = judged-good st l r g h; ordered = judged-orderly st l r g h; slots = x; snapshots = y }
 
 pub plays-start :
     (s out : List ℕ) (st : State) (l r g : List ℕ) → Sound st l r g → length (transcript (callsIn s) (machine st l r g)) ≤ length out →

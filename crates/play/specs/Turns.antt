@@ -3,7 +3,7 @@ use Prim.Native.Nat.{ℕ, suc, _+_, _-_, _*_, _/_, min}
 use mathlib.Core.Bool.{Bool, true, false}
 use mathlib.Core.List.{List}
 use lib.ListN.{length}
-use lib.Dec.{eqb, ltb, leb}
+use lib.Dec.{eqb, leb}
 use Rattle.table.specs.Order.{Op}
 use Rattle.table.specs.Answers.{number}
 use Rattle.table.specs.declared.Answer.{Answer}
@@ -15,9 +15,9 @@ use Rattle.read.specs.declared.Job.{Job}
 use Rattle.read.specs.declared.Job.the-variants.{Publish, Try, TakeFirst, TakeSecond}
 use Rattle.read.specs.declared.Slot.{Slot}
 use Rattle.read.specs.declared.Handle.{Handle}
-use Rattle.read.specs.Machine.{slotTotal, newSlot}
-use Rattle.read.specs.Admission.{createColumn, entry}
-use Rattle.read.specs.Handles.{handleOn}
+use Rattle.read.specs.declared.Made.{Made}
+use Rattle.read.specs.Machine.{slotTotal, withFree}
+use Rattle.read.specs.Handles.{handleOn, createOn}
 use Rattle.read.specs.Calls.{Lent, lent}
 use Rattle.write.specs.declared.Moved.{Moved}
 use Rattle.write.specs.Call.{Call, Create, On, Append, Open, Step, Run, appendOne}
@@ -81,51 +81,32 @@ isRunning act.Run = true
 
 -- ---- a call that takes one turn
 
--- the slot that it names, 0 where it names none
-abbrev pub named : Act → ℕ
-named act.Create = 0
-named (act.On i h) = i
-named (act.Append kind key amount) = 0
-named (act.Batch n) = 0
-named (act.Open o) = 0
-named act.Step = 0
-named act.Run = 0
-
--- a create passes a slot that is in use
-abbrev pub passes : Act → ℕ → Slot → Bool
-passes act.Create i s = elim (ltb i slotTotal) [ true ↦ s .used | false ↦ false ]
-passes (act.On j h) i s = false
-passes (act.Append kind key amount) i s = false
-passes (act.Batch n) i s = false
-passes (act.Open o) i s = false
-passes act.Step i s = false
-passes act.Run i s = false
-
--- create waits for the lock
-abbrev pub waits : Control → Bool
-waits c = eqb (entry (c .phase) createColumn) (number answer.Locked)
+-- the slot that it names, 0 where it names none; a create takes the one that is first, k
+abbrev pub named : Act → ℕ → ℕ
+named act.Create k = k
+named (act.On i h) k = i
+named (act.Append kind key amount) k = 0
+named (act.Batch n) k = 0
+named (act.Open o) k = 0
+named act.Step k = 0
+named act.Run k = 0
 
 -- the snapshot is not looked at, and stays
 abbrev pub movedAs : Answer → ℕ → Control → Slot → Moved
 movedAs a v c s = record { answer = a; value = v; control = c; slot = s; snapshot = 0 }
 
--- i is the first free slot, or none is free
-abbrev pub created : ℕ → Control → Slot → Moved
-created i c s =
-    elim (waits c) [
-      | true ↦ movedAs answer.Locked 0 c s
-      | false ↦ elim (leb slotTotal i) [ true ↦ movedAs answer.SlotsFull 0 c s | false ↦ movedAs answer.Done i c newSlot ]
-    ]
+-- what was made of a slot
+abbrev pub movedBy : Control → Made → Moved
+movedBy c m = movedAs (m .answer) (m .value) (withFree (m .free) c) (m .slot)
 
 -- a call on the handle in slot i
 abbrev pub touched : ℕ → Handle → Control → Slot → List ℕ → List ℕ → Moved
 touched i h c s l r =
-    let m = handleOn c (eqb i 0) s h l r in
-    elim (leb slotTotal i) [ true ↦ movedAs answer.NoSlot 0 c s | false ↦ movedAs (m .answer) (m .value) c (m .slot) ]
+    elim (leb slotTotal i) [ true ↦ movedAs answer.NoSlot 0 c s | false ↦ movedBy c (handleOn c i s h l r) ]
 
 -- step and run are made apart
 unfoldable pub turnOn : Call → ℕ → Control → Slot → List ℕ → List ℕ → List ℕ → Lent Moved
-turnOn Create i c s l r g = lent (created i c s) l r g
+turnOn Create i c s l r g = lent (movedBy c (createOn c s)) l r g
 turnOn (On j h) i c s l r g = lent (touched i h c s l r) l r g
 turnOn (Append os) i c s l r g = appendOn os c s 0 l r g
 turnOn (Open o) i c s l r g = lent (openOn o c s 0) l r g

@@ -8,6 +8,7 @@ use format::RECORD;
 use read::LOG_WORDS;
 use read::SLOTS;
 use read::State;
+use read::guards;
 use table::WORDS;
 use write::steps;
 ghost use mathlib.Core.Path.{_≡_};
@@ -48,7 +49,7 @@ fn play_on(
     right: &mut [u64],
     log: &mut [u64],
 ) -> Reached
-    requires { ⌜ (judged (st .control) (now left) (now right) (now log) ≡ Admitted) × (length (transcriptRule (callsIn (now s)) (machine st (now left) (now right) (now log))) ≤ length (now out)) ⌝ }
+    requires { ⌜ (judged st (now left) (now right) (now log) ≡ Admitted) × (length (transcriptRule (callsIn (now s)) (machine st (now left) (now right) (now log))) ≤ length (now out)) ⌝ }
     ensures { λ r. ⌜ (lent r (now (left .exit)) (now (right .exit)) (now (log .exit)) ≡ reached (now (s .entry)) (machine st (now (left .entry)) (now (right .entry)) (now (log .entry)))) × (now (out .exit) ≡ (let w = transcriptRule (callsIn (now (s .entry))) (machine st (now (left .entry)) (now (right .entry)) (now (log .entry))) in w ++ drop (length w) (now (out .entry)))) ⌝ }
 {
     let mut c = st.control;
@@ -66,11 +67,13 @@ fn play_on(
             far = turns::facing(0, c, slots[k], snaps[k]);
             while far.goes {
                 let m = steps::advance(c, slots[k], snaps[k], left, right, log);
-                // A step changes no more of a slot than whether it is in use.
+                // A step leaves its slot as it is, or frees it.
                 let t = m.slot;
-                let mut own = slots[k];
-                own.used = t.used;
-                slots[k] = own;
+                let own = slots[k];
+                if own.used != t.used {
+                    let gone = guards::freed(c.free, own);
+                    slots[k] = gone;
+                }
                 snaps[k] = m.snapshot;
                 c = m.control;
                 let p = c.phase;
@@ -79,10 +82,7 @@ fn play_on(
             }
             from += RECORD;
         } else {
-            let mut i = turns::named(call);
-            while turns::passes(call, i, slots[i % SLOTS]) {
-                i += 1;
-            }
+            let i = turns::named(call, c.free);
             // Any slot stands for one that is not there: it is left as it is.
             let k = i % SLOTS;
             let m = turns::turn(s, from, call, i, c, slots[k], left, right, log);

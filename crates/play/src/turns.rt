@@ -6,11 +6,10 @@ use format::RECORD;
 use read::Control;
 use read::Handle;
 use read::Job;
+use read::Made;
 use read::Phase;
 use read::SLOTS;
 use read::Slot;
-use read::admission;
-use read::guards;
 use read::handles;
 use table::Answer;
 use write::BATCH_ROOM;
@@ -25,16 +24,16 @@ ghost use Rattle.write.specs.Begins.{appendOn};
 ghost use Rattle.play.specs.Schedule.{opsFrom};
 ghost use Rattle.read.specs.Calls.{lent};
 ghost use Rattle.write.specs.Steps.{holds};
-ghost use Rattle.play.specs.Turns.{meantAt, named as namedRule, isGoing, isRunning, passes as passesRule, waits as waitsRule, movedAs, created, touched, turnOn, halt as haltRule, haltOf, far as farRule, facing as facingRule, over as overRule, ranOn, wentOn};
+ghost use Rattle.play.specs.Turns.{meantAt, named as namedRule, isGoing, isRunning, movedAs, movedBy, touched, turnOn, halt as haltRule, haltOf, far as farRule, facing as facingRule, over as overRule, ranOn, wentOn};
 
 // ---- a call that takes one turn
 
-// The slot that a call names, 0 where it names none.
-pub(crate) fn named(call: Act) -> usize
-    ensures { λ r. ⌜ r ≡ namedRule call ⌝ }
+// The slot that a call names, 0 where it names none; a create takes the one that is first, `free`.
+pub(crate) fn named(call: Act, free: usize) -> usize
+    ensures { λ r. ⌜ r ≡ namedRule call free ⌝ }
 {
     match call {
-        Act::Create => 0,
+        Act::Create => free,
         Act::On(i, _) => i,
         Act::Append(_, _, _) => 0,
         Act::Batch(_) => 0,
@@ -42,29 +41,6 @@ pub(crate) fn named(call: Act) -> usize
         Act::Step => 0,
         Act::Run => 0,
     }
-}
-
-// A create passes a slot that is in use.
-pub(crate) fn passes(call: Act, i: usize, s: Slot) -> bool
-    ensures { λ r. ⌜ r ≡ passesRule call i s ⌝ }
-{
-    match call {
-        Act::Create => if i < SLOTS { s.used } else { false },
-        Act::On(_, _) => false,
-        Act::Append(_, _, _) => false,
-        Act::Batch(_) => false,
-        Act::Open(_) => false,
-        Act::Step => false,
-        Act::Run => false,
-    }
-}
-
-// Create waits for the lock.
-fn waits(c: Control) -> bool
-    ensures { λ r. ⌜ r ≡ waitsRule c ⌝ }
-{
-    let p = c.phase;
-    admission::entry(p, 0) == table::number(Answer::Locked)
 }
 
 fn moved_as(a: Answer, value: u64, c: Control, s: Slot) -> Moved
@@ -79,17 +55,15 @@ fn moved_as(a: Answer, value: u64, c: Control, s: Slot) -> Moved
     }
 }
 
-// Create, slot `i` being the first free one, or none.
-fn create(i: usize, c: Control, s: Slot) -> Moved
-    ensures { λ r. ⌜ r ≡ created i c s ⌝ }
+// What was made of a slot.
+fn moved_by(c: Control, m: Made) -> Moved
+    ensures { λ r. ⌜ r ≡ movedBy c m ⌝ }
 {
-    if waits(c) {
-        return moved_as(Answer::Locked, 0, c, s);
-    }
-    if SLOTS <= i {
-        return moved_as(Answer::SlotsFull, 0, c, s);
-    }
-    moved_as(Answer::Done, i as u64, c, guards::new_slot())
+    let mut d = c;
+    d.free = m.free;
+    let answer = m.answer;
+    let slot = m.slot;
+    moved_as(answer, m.value, d, slot)
 }
 
 // A call on the handle in slot `i`.
@@ -99,10 +73,7 @@ fn touch<'a>(i: usize, h: Handle, c: Control, s: Slot, left: &'a [u64], right: &
     if SLOTS <= i {
         return moved_as(Answer::NoSlot, 0, c, s);
     }
-    let m = handles::handle(c, i == 0, s, h, left, right);
-    let answer = m.answer;
-    let slot = m.slot;
-    moved_as(answer, m.value, c, slot)
+    moved_by(c, handles::handle(c, i, s, h, left, right))
 }
 
 // So many operations that they are refused, whatever they are.
@@ -144,7 +115,7 @@ pub(crate) fn turn(
     ensures { λ r. ⌜ lent r (now (left .exit)) (now (right .exit)) (now (log .exit)) ≡ turnOn (meantAt (now (schedule .entry)) at call) i c s (now (left .entry)) (now (right .entry)) (now (log .entry)) ⌝ }
 {
     match call {
-        Act::Create => create(i, c, s),
+        Act::Create => moved_by(c, handles::create(c, s)),
         Act::On(_, h) => touch(i, h, c, s, &left[..], &right[..]),
         Act::Append(kind, key, amount) => begins::append_on(
             kind,

@@ -3,9 +3,10 @@ use Prim.Native.Nat.{ℕ, zero, suc, _*_, _≤_, _<_}
 use mathlib.Core.Path.{_≡_, refl, sym, ap, _∙_}
 use mathlib.Core.Bool.{Bool, true, false, _&&_}
 use mathlib.Core.List.{List, [], _∷_}
-use borrow.Author.Tests.{le-leb, lt-leb, lt-ltb, le-ltb, eqb-true, leb-true, leb-false}
+use borrow.Author.Tests.{lt-ltb, le-ltb, eqb-true, leb-true, leb-false}
 use native.Mathlib.Omega.{arith}
 use lib.ListN.{length, getD, set}
+use lib.Seq.{set-getD}
 use lib.Dec.{eqb, leb}
 use Rattle.table.proofs.Split.{split}
 use Rattle.table.specs.Copy.{pairs, words, entries, zeros}
@@ -13,19 +14,18 @@ use Rattle.table.specs.declared.Answer.{Answer}
 use Rattle.table.specs.declared.Answer.the-variants as answer
 use Rattle.table.proofs.Booleans.{both}
 use Rattle.read.specs.declared.Due.{Due}
-use Rattle.read.specs.declared.Due.the-variants.{Load}
+use Rattle.read.specs.declared.Due.the-variants.{Nothing, Load}
 use Rattle.read.specs.declared.Guard.{Guard}
+use Rattle.read.specs.declared.Link.the-variants.{Fresh}
 use Rattle.read.specs.declared.Slot.{Slot}
 use Rattle.read.specs.declared.Control.{Control}
 use Rattle.read.specs.declared.Handle.{Handle}
 use Rattle.read.specs.declared.Handle.the-variants.{LookUp}
 use Rattle.read.specs.declared.Verdict.the-variants.{Admitted, Refused}
 use Rattle.read.specs.declared.State.{State}
-use Rattle.read.specs.declared.Made.{Made}
-use Rattle.read.specs.declared.Reply.{Reply}
-use Rattle.read.specs.Machine.{withReading, slotCount, newSlot, fresh, logRoom, logWords, guardCount, shut, isOpen, standsRight, putGuard, firstGuard, anyOpen, wholeControl, sized, glanced, judged, firstUnlawful}
-use Rattle.read.specs.Handles.{copyOf, guardedCopy, bumped, withDue, guarded, loaded, entered, released, smallest, handleSigns, handled, handleOn}
-use Rattle.read.specs.Calls.{slotAt, withSlot, refusal, lent, firstFree, createSigns, handleReply, handleRule, createReply, createRule, throughGuard, throughRule, startRule}
+use Rattle.read.specs.Machine.{withReading, slotCount, noSlot, newSlot, fresh, logRoom, logWords, guardCount, shut, isOpen, standsRight, putGuard, firstGuard, anyOpen, wholeControl, sized, orderly, glanced, judged, firstUnlawful, behind}
+use Rattle.read.specs.Handles.{madeOf, copyOf, guardedCopy, bumped, withDue, guarded, loaded, entered, released, smallest, handleSigns, handled, handleOn, createSigns, createOn}
+use Rattle.read.specs.Calls.{slotAt, refusal, replyOf, lent, handleReply, handleRule, createReply, createRule, throughGuard, throughRule, startRule}
 use Rattle.read.proofs.Verdicts.{refused-not, silent}
 
 -- a state by its parts
@@ -45,6 +45,7 @@ withLock lock c =
       job = c .job;
       length = c .length;
       swapped = c .swapped;
+      free = c .free;
     }
 
 -- ---- guards
@@ -78,11 +79,11 @@ module _ (j : ℕ) (x : Guard) (gs : List Guard) where
 -- ---- what is done to a slot
 
 module _ (c : Control) (d : Due) (s : Slot) where
-  pub loaded-null : c .null ≡ true → loaded c d s ≡ record { answer = answer.None; value = 0; slot = withDue (s .epoch) d s }
+  pub loaded-null : c .null ≡ true → loaded c d s ≡ madeOf c answer.None 0 (withDue (s .epoch) d s)
   loaded-null e = rw (e, loaded)
 
   pub loaded-side :
-      c .null ≡ false → loaded c d s ≡ record { answer = answer.Done; value = firstGuard false (s .guards); slot = guarded (c .right) s }
+      c .null ≡ false → loaded c d s ≡ madeOf c answer.Done (firstGuard false (s .guards)) (guarded (c .right) s)
   loaded-side e = rw (e, loaded)
 
 module _ (c : Control) (s : Slot) where
@@ -90,7 +91,7 @@ module _ (c : Control) (s : Slot) where
   entered-inside e = rw (e, entered)
 
   pub entered-outside :
-      anyOpen (s .guards) ≡ false → entered c s ≡ record { answer = answer.Done; value = 0; slot = withDue (bumped (s .epoch)) Load s }
+      anyOpen (s .guards) ≡ false → entered c s ≡ madeOf c answer.Done 0 (withDue (bumped (s .epoch)) Load s)
   entered-outside e = rw (e, entered)
 
 -- by whether a guard stays open behind guard j, which is shut by x
@@ -141,18 +142,6 @@ module _ (c : Control) (l r g : List ℕ) where
   unfolding glanced
   glanced-whole e f = rw (e, f, glanced)
 
-  pub judged-refused : (a : Answer) → glanced c l r g ≡ Refused a → judged c l r g ≡ Refused a
-  unfolding judged
-  judged-refused a e = rw (e, judged)
-
-  pub judged-broken : glanced c l r g ≡ Admitted → firstUnlawful (c .length) g < c .length → judged c l r g ≡ Refused answer.Broken
-  unfolding judged
-  judged-broken e f = rw (e, lt-leb (c .length) (firstUnlawful (c .length) g) f, judged)
-
-  pub judged-whole : glanced c l r g ≡ Admitted → c .length ≤ firstUnlawful (c .length) g → judged c l r g ≡ Admitted
-  unfolding judged
-  judged-whole e f = rw (e, le-leb (c .length) (firstUnlawful (c .length) g) f, judged)
-
   -- the log has room for the operations that the control part counts
   pub glanced-room : glanced c l r g ≡ Admitted → 3 * c .length ≤ length g
   glanced-room e =
@@ -162,67 +151,94 @@ module _ (c : Control) (l r g : List ℕ) where
       (λ w. refused-not (sym (glanced-broken s w) ∙ e)))
       (λ s. refused-not (sym (glanced-length s) ∙ e))
 
+module _ (st : State) (l r g : List ℕ) where
+  pub judged-refused : (a : Answer) → glanced (st .control) l r g ≡ Refused a → judged st l r g ≡ Refused a
+  unfolding judged
+  judged-refused a e = rw (e, judged)
+
+  module _ (e : glanced (st .control) l r g ≡ Admitted) where
+    pub judged-broken :
+        (leb (st .control .length) (firstUnlawful (st .control .length) g) && orderly st) ≡ false → judged st l r g ≡ Refused answer.Broken
+    unfolding judged
+    judged-broken f = rw (e, f, judged)
+
+    pub judged-whole : (leb (st .control .length) (firstUnlawful (st .control .length) g) && orderly st) ≡ true → judged st l r g ≡ Admitted
+    unfolding judged
+    judged-whole f = rw (e, f, judged)
+
 -- ---- slots
 
--- whether a slot is in use does not go by what else a read past the end finds
-pub used-past : (ss : List Slot) (i : ℕ) (d e : Slot) → d .used ≡ e .used → getD ss i d .used ≡ getD ss i e .used
-used-past [] i d e h = h
-used-past (s ∷ ss) zero d e h = refl
-used-past (s ∷ ss) (suc i) d e h = used-past ss i d e h
+-- what the code reads of slots past the end: the same use and the same link as the rule reads there
+abbrev pub blank : Slot
+blank = record { used = false; epoch = 0; guards = []; due = Nothing; link = Fresh }
+
+part-past : {A : Type 0} (f : Slot → A) (ss : List Slot) (i : ℕ) (d e : Slot) → f d ≡ f e → f (getD ss i d) ≡ f (getD ss i e)
+part-past f [] i d e h = h
+part-past f (s ∷ ss) zero d e h = refl
+part-past f (s ∷ ss) (suc i) d e h = part-past f ss i d e h
+
+pub used-past : (ss : List Slot) (i : ℕ) → getD ss i noSlot .used ≡ getD ss i blank .used
+used-past ss i = part-past (λ (s : Slot). s .used) ss i noSlot blank refl
+
+pub link-past : (ss : List Slot) (i : ℕ) → getD ss i noSlot .link ≡ getD ss i blank .link
+link-past ss i = part-past (λ (s : Slot). s .link) ss i noSlot blank refl
 
 -- ---- calls on a handle
 
-module _ (c : Control) (own : Bool) (s : Slot) (h : Handle) (l r : List ℕ) where
-  pub handle-refused :
-      (a : Answer) → smallest (handleSigns c own s h) ≡ Refused a → handleOn c own s h l r ≡ record { answer = a; value = 0; slot = s }
+module _ (c : Control) (i : ℕ) (s : Slot) (h : Handle) (l r : List ℕ) where
+  pub handle-refused : (a : Answer) → smallest (handleSigns c (eqb i 0) s h) ≡ Refused a → handleOn c i s h l r ≡ madeOf c a 0 s
   unfolding handleOn
   handle-refused a e = rw (e, handleOn)
 
-  pub handle-made : smallest (handleSigns c own s h) ≡ Admitted → handleOn c own s h l r ≡ handled c s h l r
+  pub handle-made : smallest (handleSigns c (eqb i 0) s h) ≡ Admitted → handleOn c i s h l r ≡ handled c i s h l r
   unfolding handleOn
   handle-made e = rw (e, handleOn)
 
--- what a call that is judged hands back, from what is made of the slot
-abbrev pub madeReply : ℕ → Made → State → Reply
-madeReply i m st = record { answer = m .answer; value = m .value; state = withSlot i (m .slot) st }
+-- where a call is refused, what was made is put back as it was
+pub reply-back :
+    (i : ℕ) (a : Answer) (v : ℕ) (st : State) →
+    replyOf i (madeOf (st .control) a v (slotAt st i)) st ≡ record { answer = a; value = v; state = st }
+reply-back i a v st = rw (set-getD (st .slots) i noSlot)
 
 module _ (i : ℕ) (h : Handle) (l r : List ℕ) (st : State) where
   pub reply-past : slotCount ≤ i → handleReply i h l r st ≡ refusal answer.NoSlot st
   reply-past p = rw (le-ltb i slotCount p, handleReply)
 
-  pub reply-in : i < slotCount → handleReply i h l r st ≡ madeReply i (handleOn (st .control) (eqb i 0) (slotAt st i) h l r) st
+  pub reply-in : i < slotCount → handleReply i h l r st ≡ replyOf i (handleOn (st .control) i (slotAt st i) h l r) st
   reply-in p = rw (lt-ltb i slotCount p, handleReply)
 
   module _ (g : List ℕ) where
-    pub call-refused : (a : Answer) → judged (st .control) l r g ≡ Refused a → handleRule i h l r g st ≡ refusal a st
+    pub call-refused : (a : Answer) → judged st l r g ≡ Refused a → handleRule i h l r g st ≡ refusal a st
     unfolding handleRule
     call-refused a e = rw (e, handleRule)
 
-    pub call-judged : judged (st .control) l r g ≡ Admitted → handleRule i h l r g st ≡ handleReply i h l r st
+    pub call-judged : judged st l r g ≡ Admitted → handleRule i h l r g st ≡ handleReply i h l r st
     unfolding handleRule
     call-judged e = rw (e, handleRule)
 
 -- ---- create
 
-module _ (i : ℕ) (st : State) where
-  pub create-refused : (a : Answer) → smallest (createSigns (st .control) i) ≡ Refused a → createReply i st ≡ refusal a st
-  create-refused a e = rw (e, createReply)
+module _ (c : Control) (s : Slot) where
+  pub create-refused : (a : Answer) → smallest (createSigns c) ≡ Refused a → createOn c s ≡ madeOf c a 0 s
+  unfolding createOn
+  create-refused a e = rw (e, createOn)
 
   pub create-made :
-      smallest (createSigns (st .control) i) ≡ Admitted →
-      createReply i st ≡ record { answer = answer.Done; value = i; state = withSlot i newSlot st }
-  create-made e = rw (e, createReply)
+      smallest (createSigns c) ≡ Admitted →
+      createOn c s ≡ record { answer = answer.Done; value = c .free; slot = newSlot; free = behind (c .free) (s .link) }
+  unfolding createOn
+  create-made e = rw (e, createOn)
 
-  -- where it is made, the slot is there
-  pub create-room : smallest (createSigns (st .control) i) ≡ Admitted → i < slotCount
-  create-room e = leb-false slotCount i (silent 12 (createSigns (st .control) i) e)
+-- where it is made, the slot is there
+pub create-room : (c : Control) → smallest (createSigns c) ≡ Admitted → c .free < slotCount
+create-room c e = leb-false slotCount (c .free) (silent 12 (createSigns c) e)
 
 module _ (l r g : List ℕ) (st : State) where
-  pub new-refused : (a : Answer) → judged (st .control) l r g ≡ Refused a → createRule l r g st ≡ refusal a st
+  pub new-refused : (a : Answer) → judged st l r g ≡ Refused a → createRule l r g st ≡ refusal a st
   unfolding createRule
   new-refused a e = rw (e, createRule)
 
-  pub new-judged : judged (st .control) l r g ≡ Admitted → createRule l r g st ≡ createReply (firstFree (st .slots)) st
+  pub new-judged : judged st l r g ≡ Admitted → createRule l r g st ≡ createReply st
   unfolding createRule
   new-judged e = rw (e, createRule)
 
@@ -243,11 +259,11 @@ module _ (i j : ℕ) (l r : List ℕ) (st : State) where
   guard-shown p e = rw (lt-ltb i slotCount p, e, throughGuard)
 
   module _ (g : List ℕ) where
-    pub through-refused : (a : Answer) → judged (st .control) l r g ≡ Refused a → throughRule i j l r g st ≡ []
+    pub through-refused : (a : Answer) → judged st l r g ≡ Refused a → throughRule i j l r g st ≡ []
     unfolding throughRule
     through-refused a e = rw (e, throughRule)
 
-    pub through-judged : judged (st .control) l r g ≡ Admitted → throughRule i j l r g st ≡ throughGuard i j l r st
+    pub through-judged : judged st l r g ≡ Admitted → throughRule i j l r g st ≡ throughGuard i j l r st
     unfolding throughRule
     through-judged e = rw (e, throughRule)
 

@@ -14,6 +14,9 @@ is-load = record { takes = proofs.guards.is_load.Kinds.ps; gives = proofs.guards
 abbrev pub no-slot : Contract 0
 no-slot = record { takes = proofs.guards.no_slot.Kinds.ps; gives = proofs.guards.no_slot.Kinds.r; post = proofs.guards.no_slot.Reads.Post }
 
+abbrev pub new-slot : Contract 0
+new-slot = record { takes = proofs.guards.new_slot.Kinds.ps; gives = proofs.guards.new_slot.Kinds.r; post = proofs.guards.new_slot.Reads.Post }
+
 abbrev pub entered : Contract 0
 entered = record { takes = proofs.guards.entered.Kinds.ps; gives = proofs.guards.entered.Kinds.r; post = proofs.guards.entered.Reads.Post }
 

@@ -4,5 +4,7 @@ pub mod Phases
 pub mod Table
 pub mod Verdicts
 pub mod Cases
+pub mod FreeOrder
+pub mod Orderly
 pub mod Inner
 pub mod Computes

@@ -1,23 +1,21 @@
--- The reader's calls on the whole machine: judged on all of it, and changing one slot.
+-- The reader's calls on the whole machine: judged on all of it, and changing one slot and which is handed out next.
 use Prim.Native.Nat.{ℕ}
-use mathlib.Core.Bool.{true, false, not}
-use mathlib.Core.List.{List, [], _∷_}
+use mathlib.Core.Bool.{true, false}
+use mathlib.Core.List.{List, []}
 use lib.ListN.{getD, set}
-use lib.Dec.{eqb, ltb, leb}
-use Rattle.table.specs.Seek.{seek}
+use lib.Dec.{eqb, ltb}
 use Rattle.table.specs.Copy.{zeros, usedRule, lookRule}
 use Rattle.table.specs.declared.Answer.{Answer}
 use Rattle.table.specs.declared.Answer.the-variants as answer
 use Rattle.read.specs.declared.Slot.{Slot}
-use Rattle.read.specs.declared.Control.{Control}
 use Rattle.read.specs.declared.State.{State}
 use Rattle.read.specs.declared.Handle.{Handle}
 use Rattle.read.specs.declared.Handle.the-variants.{LookUp}
 use Rattle.read.specs.declared.Verdict.the-variants.{Admitted, Refused}
+use Rattle.read.specs.declared.Made.{Made}
 use Rattle.read.specs.declared.Reply.{Reply}
-use Rattle.read.specs.Machine.{slotCount, noSlot, newSlot, sized, judged, fresh}
-use Rattle.read.specs.Admission.{createColumn, entry}
-use Rattle.read.specs.Handles.{Sign, sign, smallest, handleSigns, handleOn, guardedCopy}
+use Rattle.read.specs.Machine.{slotCount, noSlot, withFree, sized, judged, fresh}
+use Rattle.read.specs.Handles.{smallest, handleSigns, handleOn, createOn, guardedCopy}
 
 abbrev pub slotAt : State → ℕ → Slot
 slotAt st i = getD (st .slots) i noSlot
@@ -27,6 +25,16 @@ withSlot i s st = record { control = st .control; slots = set (st .slots) i s; s
 
 abbrev pub refusal : Answer → State → Reply
 refusal a st = record { answer = a; value = 0; state = st }
+
+-- what was made at slot i, put back
+abbrev pub replyOf : ℕ → Made → State → Reply
+replyOf i m st =
+    record {
+      answer = m .answer;
+      value = m .value;
+      state =
+          record { control = withFree (m .free) (st .control); slots = set (st .slots) i (m .slot); snapshots = st .snapshots };
+    }
 
 -- what a call hands back, with the three lent slices
 pub record Lent (A : Type 0) : Type 0 where
@@ -42,33 +50,20 @@ lent a l r g = record { made = a; left = l; right = r; log = g }
 
 abbrev pub handleReply : ℕ → Handle → List ℕ → List ℕ → State → Reply
 handleReply i h l r st =
-    let m = handleOn (st .control) (eqb i 0) (slotAt st i) h l r in
-    elim (ltb i slotCount) [
-      | true ↦ record { answer = m .answer; value = m .value; state = withSlot i (m .slot) st }
-      | false ↦ refusal answer.NoSlot st
-    ]
+    elim (ltb i slotCount)
+    [ true ↦ replyOf i (handleOn (st .control) i (slotAt st i) h l r) st | false ↦ refusal answer.NoSlot st ]
 
 unfoldable pub handleRule : ℕ → Handle → List ℕ → List ℕ → List ℕ → State → Reply
 handleRule i h l r g st =
-    elim (judged (st .control) l r g) [ Admitted ↦ handleReply i h l r st | Refused a ↦ refusal a st ]
+    elim (judged st l r g) [ Admitted ↦ handleReply i h l r st | Refused a ↦ refusal a st ]
 
 -- ---- create
 
--- the lowest free slot, or the number of slots
-abbrev pub firstFree : List Slot → ℕ
-firstFree ss = seek (λ i. not (getD ss i noSlot .used)) 0 slotCount
-
-abbrev pub createSigns : Control → ℕ → List Sign
-createSigns c i = sign answer.Locked (eqb (entry (c .phase) createColumn) 7) ∷ sign answer.SlotsFull (leb slotCount i) ∷ []
-
-abbrev pub createReply : ℕ → State → Reply
-createReply i st =
-    elim (smallest (createSigns (st .control) i))
-    [ Admitted ↦ record { answer = answer.Done; value = i; state = withSlot i newSlot st } | Refused a ↦ refusal a st ]
+abbrev pub createReply : State → Reply
+createReply st = let i = st .control .free in replyOf i (createOn (st .control) (slotAt st i)) st
 
 unfoldable pub createRule : List ℕ → List ℕ → List ℕ → State → Reply
-createRule l r g st =
-    elim (judged (st .control) l r g) [ Admitted ↦ createReply (firstFree (st .slots)) st | Refused a ↦ refusal a st ]
+createRule l r g st = elim (judged st l r g) [ Admitted ↦ createReply st | Refused a ↦ refusal a st ]
 
 -- ---- a guard's view
 
@@ -81,7 +76,7 @@ throughGuard i j l r st =
 
 unfoldable pub throughRule : ℕ → ℕ → List ℕ → List ℕ → List ℕ → State → List ℕ
 throughRule i j l r g st =
-    elim (judged (st .control) l r g) [ Admitted ↦ throughGuard i j l r st | Refused a ↦ [] ]
+    elim (judged st l r g) [ Admitted ↦ throughGuard i j l r st | Refused a ↦ [] ]
 
 -- its used part
 abbrev pub viewRule : ℕ → ℕ → List ℕ → List ℕ → List ℕ → State → List ℕ

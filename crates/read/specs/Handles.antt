@@ -1,15 +1,17 @@
--- What a call on a handle does: to its own slot alone, judged by the control part and that slot.
+-- What create and a call on a handle do: to one slot, judged by the control part and that slot. Create and drop change besides which
+-- slot is handed out next.
 use Prim.Native.Nat.{ℕ, _+_, _%_, _^_}
 use mathlib.Core.Bool.{Bool, true, false, not, _&&_, _||_}
 use mathlib.Core.List.{List, [], _∷_}
 use lib.ListN.{getD}
-use lib.Dec.{eqb, ltb}
+use lib.Dec.{eqb, ltb, leb}
 use Rattle.table.specs.Copy.{lookRule}
 use Rattle.table.specs.declared.Answer.{Answer}
 use Rattle.table.specs.declared.Answer.the-variants as answer
 use Rattle.read.specs.declared.Due.{Due}
 use Rattle.read.specs.declared.Due.the-variants.{Nothing, Load, Restore}
 use Rattle.read.specs.declared.Guard.{Guard}
+use Rattle.read.specs.declared.Link.the-variants.{To}
 use Rattle.read.specs.declared.Slot.{Slot}
 use Rattle.read.specs.declared.Control.{Control}
 use Rattle.read.specs.declared.Handle.{Handle}
@@ -17,8 +19,8 @@ use Rattle.read.specs.declared.Handle.the-variants.{Drop, Enter, GoOn, R
 use Rattle.read.specs.declared.Verdict.{Verdict}
 use Rattle.read.specs.declared.Verdict.the-variants.{Admitted, Refused}
 use Rattle.read.specs.declared.Made.{Made}
-use Rattle.read.specs.Machine.{shut, openOn, withUse, withReading, isOpen, standsRight, putGuard, firstGuard, anyOpen, allOpen, isDue, isLoad}
-use Rattle.read.specs.Admission.{handleNumber, guardNamed, column, entry}
+use Rattle.read.specs.Machine.{slotCount, shut, openOn, withUse, withReading, newSlot, behind, isOpen, standsRight, putGuard, firstGuard, anyOpen, allOpen, isDue, isLoad}
+use Rattle.read.specs.Admission.{handleNumber, guardNamed, column, createColumn, entry}
 
 -- ---- which refusal is given
 
@@ -69,7 +71,15 @@ handleSigns c own s h =
     ∷ sign answer.FourGuards (lacksRoom n (c .null) s)
     ∷ []
 
+-- against a create: the lock, and no slot that is free
+abbrev pub createSigns : Control → List Sign
+createSigns c = sign answer.Locked (eqb (entry (c .phase) createColumn) 7) ∷ sign answer.SlotsFull (leb slotCount (c .free)) ∷ []
+
 -- ---- what is done
+
+-- the same slot is handed out next
+abbrev pub madeOf : Control → Answer → ℕ → Slot → Made
+madeOf c a v s = record { answer = a; value = v; slot = s; free = c .free }
 
 -- the epoch goes round from 2^64-1 to 0
 abbrev pub bumped : ℕ → ℕ
@@ -78,9 +88,9 @@ bumped e = (e + 1) % 2 ^ 64
 abbrev pub withDue : ℕ → Due → Slot → Slot
 withDue e d s = withReading e (s .guards) d s
 
--- the slot is free; all else stays
-abbrev pub freed : Slot → Slot
-freed s = withUse false s
+-- the slot is free, and the one that was first, k, comes behind it; all else stays
+abbrev pub freed : ℕ → Slot → Slot
+freed k s = withUse false (To k) s
 
 -- the lowest free guard opens on a side
 abbrev pub guarded : Bool → Slot → Slot
@@ -91,21 +101,19 @@ guarded right s =
 abbrev pub loaded : Control → Due → Slot → Made
 loaded c d s =
     elim (c .null) [
-      | true ↦ record { answer = answer.None; value = 0; slot = withDue (s .epoch) d s }
-      | false ↦ record { answer = answer.Done; value = firstGuard false (s .guards); slot = guarded (c .right) s }
+      | true ↦ madeOf c answer.None 0 (withDue (s .epoch) d s)
+      | false ↦ madeOf c answer.Done (firstGuard false (s .guards)) (guarded (c .right) s)
     ]
 
 abbrev pub entered : Control → Slot → Made
 entered c s =
-    elim (anyOpen (s .guards)) [
-      | true ↦ loaded c (s .due) s
-      | false ↦ record { answer = answer.Done; value = 0; slot = withDue (bumped (s .epoch)) Load s }
-    ]
+    elim (anyOpen (s .guards))
+    [ true ↦ loaded c (s .due) s | false ↦ madeOf c answer.Done 0 (withDue (bumped (s .epoch)) Load s) ]
 
 abbrev pub wentOn : Control → Due → Slot → Made
-wentOn c Nothing s = record { answer = answer.NotNow; value = 0; slot = s }
+wentOn c Nothing s = madeOf c answer.NotNow 0 s
 wentOn c Load s = loaded c Restore s
-wentOn c Restore s = record { answer = answer.None; value = 0; slot = withDue (bumped (s .epoch)) Nothing s }
+wentOn c Restore s = madeOf c answer.None 0 (withDue (bumped (s .epoch)) Nothing s)
 
 -- guard j closes, and the last one adds one to the epoch
 abbrev pub released : ℕ → Slot → Slot
@@ -124,17 +132,24 @@ abbrev pub bit : Bool → ℕ
 bit true = 1
 bit false = 0
 
-unfoldable pub handled : Control → Slot → Handle → List ℕ → List ℕ → Made
-handled c s Drop l r = record { answer = answer.Done; value = 0; slot = freed s }
-handled c s Enter l r = entered c s
-handled c s GoOn l r = wentOn c (s .due) s
-handled c s (Release j) l r = record { answer = answer.Done; value = 0; slot = released j s }
-handled c s (LookUp j key) l r =
-    record { answer = answer.Done; value = getD (lookRule key (guardedCopy (s .guards) j l r)) 1 0; slot = s }
-handled c s WasDropped l r = record { answer = answer.Done; value = bit (c .null); slot = s }
+-- on the handle in slot i; one that is dropped is handed out next
+unfoldable pub handled : Control → ℕ → Slot → Handle → List ℕ → List ℕ → Made
+handled c i s Drop l r = record { answer = answer.Done; value = 0; slot = freed (c .free) s; free = i }
+handled c i s Enter l r = entered c s
+handled c i s GoOn l r = wentOn c (s .due) s
+handled c i s (Release j) l r = madeOf c answer.Done 0 (released j s)
+handled c i s (LookUp j key) l r = madeOf c answer.Done (getD (lookRule key (guardedCopy (s .guards) j l r)) 1 0) s
+handled c i s WasDropped l r = madeOf c answer.Done (bit (c .null)) s
 
--- a call on a handle: refused with nothing changed, or made
-unfoldable pub handleOn : Control → Bool → Slot → Handle → List ℕ → List ℕ → Made
-handleOn c own s h l r =
-    elim (smallest (handleSigns c own s h))
-    [ Admitted ↦ handled c s h l r | Refused a ↦ record { answer = a; value = 0; slot = s } ]
+-- a call on the handle in slot i: refused with nothing changed, or made
+unfoldable pub handleOn : Control → ℕ → Slot → Handle → List ℕ → List ℕ → Made
+handleOn c i s h l r =
+    elim (smallest (handleSigns c (eqb i 0) s h)) [ Admitted ↦ handled c i s h l r | Refused a ↦ madeOf c a 0 s ]
+
+-- a create: the slot that is first, s, gets a new handle, and the one behind it is first
+unfoldable pub createOn : Control → Slot → Made
+createOn c s =
+    elim (smallest (createSigns c)) [
+      | Admitted ↦ record { answer = answer.Done; value = c .free; slot = newSlot; free = behind (c .free) (s .link) }
+      | Refused a ↦ madeOf c a 0 s
+    ]

@@ -1,5 +1,5 @@
 -- The machine's parts: sizes, the fresh state, the writer's phases, and what makes a state broken.
-use Prim.Native.Nat.{ℕ, _+_, _-_, _*_}
+use Prim.Native.Nat.{ℕ, zero, suc, _+_, _-_, _*_}
 use mathlib.Core.Bool.{Bool, true, false, not, _&&_, _||_}
 use mathlib.Core.List.{List, _∷_}
 use lib.ListN.{length, getD, set, replicate}
@@ -10,6 +10,8 @@ use Rattle.table.specs.declared.Answer.the-variants.{Length, Broken}
 use Rattle.read.specs.declared.Due.{Due}
 use Rattle.read.specs.declared.Due.the-variants.{Nothing, Load, Restore}
 use Rattle.read.specs.declared.Guard.{Guard}
+use Rattle.read.specs.declared.Link.{Link}
+use Rattle.read.specs.declared.Link.the-variants.{Fresh, To}
 use Rattle.read.specs.declared.Slot.{Slot}
 use Rattle.read.specs.declared.Phase.{Phase}
 use Rattle.read.specs.declared.Phase.the-variants.{Idle, Begin, Poll, Copy, Drain, Keep, Swap, Snap, Null, Lock, LastSnap, LastPoll, Finish, Gone}
@@ -87,19 +89,40 @@ isLoad Restore = false
 
 -- a free slot of a fresh machine
 abbrev pub noSlot : Slot
-noSlot = record { used = false; epoch = 0; guards = noGuards; due = Nothing }
+noSlot = record { used = false; epoch = 0; guards = noGuards; due = Nothing; link = Fresh }
 
--- in use or free, and all else stays
-abbrev pub withUse : Bool → Slot → Slot
-withUse u s = record { used = u; epoch = s .epoch; guards = s .guards; due = s .due }
+-- in use or free, and what comes behind it; the rest stays
+abbrev pub withUse : Bool → Link → Slot → Slot
+withUse u k s = record { used = u; epoch = s .epoch; guards = s .guards; due = s .due; link = k }
 
 -- epoch, guards and what is due; the rest stays
 abbrev pub withReading : ℕ → List Guard → Due → Slot → Slot
-withReading e gs d s = record { used = s .used; epoch = e; guards = gs; due = d }
+withReading e gs d s = record { used = s .used; epoch = e; guards = gs; due = d; link = s .link }
 
 -- a new handle
 abbrev pub newSlot : Slot
-newSlot = withUse true noSlot
+newSlot = withUse true Fresh noSlot
+
+-- ---- the order in which free slots are handed out
+
+-- what comes behind slot i: the slot that was first when it was freed; and behind one never used, the next number
+abbrev pub behind : ℕ → Link → ℕ
+behind i Fresh = suc i
+behind i (To k) = k
+
+-- how many of the slots below n are free
+unfoldable pub freeBelow : ℕ → List Slot → ℕ
+freeBelow zero ss = 0
+freeBelow (suc n) ss = elim (getD ss n noSlot .used) [ true ↦ freeBelow n ss | false ↦ suc (freeBelow n ss) ]
+
+-- from k on n free slots come, one behind the other, and then the end
+unfoldable pub walk : ℕ → List Slot → ℕ → Bool
+walk zero ss k = eqb k slotCount
+walk (suc n) ss k = let s = getD ss k noSlot in ltb k slotCount && (not (s .used) && walk n ss (behind k (s .link)))
+
+-- all free slots come, each once: a walk that comes to its end meets no slot twice
+unfoldable pub orderly : State → Bool
+orderly st = walk (freeBelow slotCount (st .slots)) (st .slots) (st .control .free)
 
 -- ---- the writer's phases
 
@@ -187,7 +210,7 @@ wholeControl c =
     && (leb (c .swapped) (c .length)
     && (inRange c (c .phase) && (same (c .lock) (locks (c .phase)) && same (c .null) (nulls (c .phase)))))
 
--- lengths, entry counts and the control part: all but the walk over the log
+-- lengths, entry counts and the control part: all but the walks over the log and over the free slots
 unfoldable pub glanced : Control → List ℕ → List ℕ → List ℕ → Verdict
 glanced c l r g =
     elim (sized l r g) [
@@ -196,19 +219,32 @@ glanced c l r g =
       | false ↦ Refused Length
     ]
 
--- what every call is judged on: the same, and each logged operation
-unfoldable pub judged : Control → List ℕ → List ℕ → List ℕ → Verdict
-judged c l r g =
-    elim (glanced c l r g) [
-      | Admitted ↦ elim (leb (c .length) (firstUnlawful (c .length) g)) [ true ↦ Admitted | false ↦ Refused Broken ]
+-- what every call is judged on: the same, each logged operation, and the order of the free slots
+unfoldable pub judged : State → List ℕ → List ℕ → List ℕ → Verdict
+judged st l r g =
+    let n = st .control .length in
+    elim (glanced (st .control) l r g) [
+      | Admitted ↦ elim (leb n (firstUnlawful n g) && orderly st) [ true ↦ Admitted | false ↦ Refused Broken ]
       | Refused a ↦ Refused a
     ]
 
 -- ---- the fresh machine
 
+-- slot 1 is handed out first
 abbrev pub freshControl : Control
 freshControl =
-    record { right = false; null = false; lock = false; first = true; second = true; phase = Idle; job = Publish; length = 0; swapped = 0 }
+    record {
+      right = false;
+      null = false;
+      lock = false;
+      first = true;
+      second = true;
+      phase = Idle;
+      job = Publish;
+      length = 0;
+      swapped = 0;
+      free = 1;
+    }
 
 -- where the writer stands, with the lock that fits it; the rest stays
 abbrev pub standing : Phase → Job → Control → Control
@@ -223,6 +259,7 @@ standing p j c =
       job = j;
       length = c .length;
       swapped = c .swapped;
+      free = c .free;
     }
 
 -- the pointer's side, whether it is null, `first`, `second`, the log's length and the swap index; the rest stays
@@ -238,6 +275,23 @@ holding right null first second n s c =
       job = c .job;
       length = n;
       swapped = s;
+      free = c .free;
+    }
+
+-- the slot that is handed out next; the rest stays
+abbrev pub withFree : ℕ → Control → Control
+withFree k c =
+    record {
+      right = c .right;
+      null = c .null;
+      lock = c .lock;
+      first = c .first;
+      second = c .second;
+      phase = c .phase;
+      job = c .job;
+      length = c .length;
+      swapped = c .swapped;
+      free = k;
     }
 
 -- slot 0 is the writer's own handle

@@ -3,13 +3,14 @@ use crate::Control;
 use crate::Due;
 use crate::GUARDS;
 use crate::Guard;
+use crate::Link;
 use crate::Made;
 use crate::Slot;
 use crate::truth;
 use table::Answer;
 ghost use mathlib.Core.Path.{_≡_};
 ghost use Rattle.read.specs.Machine.{shut as shutRule, openOn, isOpen, putGuard, firstGuard, anyOpen, allOpen, isDue, isLoad, noSlot, withReading, newSlot, noGuards};
-ghost use Rattle.read.specs.Handles.{withDue, freed as freedRule, guarded as guardedRule, loaded as loadedRule, entered as enteredRule, wentOn, released as releasedRule};
+ghost use Rattle.read.specs.Handles.{madeOf, withDue, freed as freedRule, guarded as guardedRule, loaded as loadedRule, entered as enteredRule, wentOn, released as releasedRule};
 
 // The first guard that is open, or that is shut, by what is wanted; their number where there is none.
 pub(crate) fn first_guard(want: bool, g: [Guard; GUARDS]) -> usize
@@ -93,10 +94,11 @@ pub(crate) fn no_slot() -> Slot
         epoch: 0,
         guards: none,
         due: Due::Nothing,
+        link: Link::Fresh,
     }
 }
 
-pub fn new_slot() -> Slot
+pub(crate) fn new_slot() -> Slot
     ensures { λ r. ⌜ r ≡ newSlot ⌝ }
 {
     let mut s = no_slot();
@@ -108,11 +110,13 @@ pub fn new_slot() -> Slot
 fn with_reading(epoch: u64, g: [Guard; GUARDS], d: Due, s: Slot) -> Slot
     ensures { λ r. ⌜ r ≡ withReading epoch g d s ⌝ }
 {
+    let k = s.link;
     Slot {
         used: s.used,
         epoch: epoch,
         guards: g,
         due: d,
+        link: k,
     }
 }
 
@@ -123,13 +127,31 @@ fn with_due(epoch: u64, d: Due, s: Slot) -> Slot
     with_reading(epoch, g, d, s)
 }
 
-// The slot is free; its epoch stays.
-pub fn freed(s: Slot) -> Slot
-    ensures { λ r. ⌜ r ≡ freedRule s ⌝ }
+// The slot is free, and slot `k`, which was first, comes behind it; its epoch stays.
+pub fn freed(k: usize, s: Slot) -> Slot
+    ensures { λ r. ⌜ r ≡ freedRule k s ⌝ }
 {
-    let mut t = s;
-    t.used = false;
-    t
+    let g = s.guards;
+    let d = s.due;
+    Slot {
+        used: false,
+        epoch: s.epoch,
+        guards: g,
+        due: d,
+        link: Link::To(k),
+    }
+}
+
+// What was made of a slot, where the same one is handed out next.
+pub(crate) fn made_of(c: Control, a: Answer, value: u64, s: Slot) -> Made
+    ensures { λ r. ⌜ r ≡ madeOf c a value s ⌝ }
+{
+    Made {
+        answer: a,
+        value: value,
+        slot: s,
+        free: c.free,
+    }
 }
 
 // Guard `j` becomes `x`.
@@ -161,21 +183,11 @@ fn loaded(c: Control, d: Due, s: Slot) -> Made
     ensures { λ r. ⌜ r ≡ loadedRule c d s ⌝ }
 {
     if c.null {
-        let t = with_due(s.epoch, d, s);
-        return Made {
-            answer: Answer::None,
-            value: 0,
-            slot: t,
-        };
+        return made_of(c, Answer::None, 0, with_due(s.epoch, d, s));
     }
     let g = s.guards;
     let j = first_guard(false, g);
-    let t = guarded(c.right, s);
-    Made {
-        answer: Answer::Done,
-        value: j as u64,
-        slot: t,
-    }
+    made_of(c, Answer::Done, j as u64, guarded(c.right, s))
 }
 
 pub(crate) fn entered(c: Control, s: Slot) -> Made
@@ -187,11 +199,7 @@ pub(crate) fn entered(c: Control, s: Slot) -> Made
         return loaded(c, d, s);
     }
     let t = with_due(std::num::wrapping_add_u64(s.epoch, 1), Due::Load, s);
-    Made {
-        answer: Answer::Done,
-        value: 0,
-        slot: t,
-    }
+    made_of(c, Answer::Done, 0, t)
 }
 
 pub(crate) fn went_on(c: Control, s: Slot) -> Made
@@ -199,19 +207,11 @@ pub(crate) fn went_on(c: Control, s: Slot) -> Made
 {
     let d = s.due;
     match d {
-        Due::Nothing => Made {
-            answer: Answer::NotNow,
-            value: 0,
-            slot: s,
-        },
+        Due::Nothing => made_of(c, Answer::NotNow, 0, s),
         Due::Load => loaded(c, Due::Restore, s),
         Due::Restore => {
             let t = with_due(std::num::wrapping_add_u64(s.epoch, 1), Due::Nothing, s);
-            Made {
-                answer: Answer::None,
-                value: 0,
-                slot: t,
-            }
+            made_of(c, Answer::None, 0, t)
         }
     }
 }

@@ -1,14 +1,16 @@
-// A call on a handle, on the control part and the handle's own slot.
+// A call on a handle, on the control part and the handle's own slot; and create, on the slot that is first.
 use crate::Control;
 use crate::Due;
 use crate::GUARDS;
 use crate::Guard;
 use crate::Handle;
 use crate::Made;
+use crate::SLOTS;
 use crate::Slot;
 use crate::Verdict;
 use crate::admission;
 use crate::guards;
+use crate::order;
 use crate::truth;
 use table::Answer;
 ghost use mathlib.Core.Path.{_≡_};
@@ -16,7 +18,7 @@ ghost use mathlib.Core.Bool.{not, _&&_};
 ghost use Rattle.read.specs.Machine.{isLoad, allOpen};
 ghost use lib.ListN.{getD};
 ghost use Rattle.table.specs.Copy.{lookRule};
-ghost use Rattle.read.specs.Handles.{mistimed as mistimedRule, leavesGuards, lacksGuard, lacksRoom, given as givenRule, smallest, handleSigns, copyOf, guardedCopy, bit as bitRule, handled, handleOn};
+ghost use Rattle.read.specs.Handles.{mistimed as mistimedRule, leavesGuards, lacksGuard, lacksRoom, given as givenRule, smallest, handleSigns, copyOf, guardedCopy, bit as bitRule, handled, handleOn, createSigns, createOn};
 
 // The calls by their numbers in a schedule.
 const DROP: usize = 2;
@@ -28,6 +30,9 @@ const GO_ON: usize = 4;
 const RELEASE: usize = 5;
 
 const LOOK_UP: usize = 6;
+
+// The column of create in the table of admissions.
+const CREATE: usize = 0;
 
 // ---- what speaks against a call, by its number
 
@@ -154,67 +159,88 @@ fn count(w: &[u64], key: u64) -> u64
     if 1 < pair.len() { pair[1] } else { 0 }
 }
 
-// What an admitted call does.
-fn act<'a>(c: Control, s: Slot, h: Handle, left: &'a [u64], right: &'a [u64]) -> Made
-    ensures { λ r. ⌜ r ≡ handled c s h (now (left .entry)) (now (right .entry)) ⌝ }
+// What an admitted call does on the handle in slot `i`; one that is dropped is handed out next.
+fn act<'a>(c: Control, i: usize, s: Slot, h: Handle, left: &'a [u64], right: &'a [u64]) -> Made
+    ensures { λ r. ⌜ r ≡ handled c i s h (now (left .entry)) (now (right .entry)) ⌝ }
 {
     match h {
         Handle::Drop => {
-            let t = guards::freed(s);
+            let t = guards::freed(c.free, s);
             Made {
                 answer: Answer::Done,
                 value: 0,
                 slot: t,
+                free: i,
             }
         }
         Handle::Enter => guards::entered(c, s),
         Handle::GoOn => guards::went_on(c, s),
         Handle::Release(j) => {
             let t = guards::released(j, s);
-            Made {
-                answer: Answer::Done,
-                value: 0,
-                slot: t,
-            }
+            guards::made_of(c, Answer::Done, 0, t)
         }
         Handle::LookUp(j, key) => {
             let g = s.guards;
             let n = count(guarded_copy(g, j, left, right), key);
-            Made {
-                answer: Answer::Done,
-                value: n,
-                slot: s,
-            }
+            guards::made_of(c, Answer::Done, n, s)
         }
         Handle::WasDropped => {
             let n = bit(c.null);
-            Made {
-                answer: Answer::Done,
-                value: n,
-                slot: s,
-            }
+            guards::made_of(c, Answer::Done, n, s)
         }
     }
 }
 
-// A call on a handle: refused with nothing changed, or made.
+// A call on the handle in slot `i`: refused with nothing changed, or made.
 pub fn handle<'a>(
     c: Control,
-    own: bool,
+    i: usize,
     s: Slot,
     h: Handle,
     left: &'a [u64],
     right: &'a [u64],
 ) -> Made
-    ensures { λ r. ⌜ r ≡ handleOn c own s h (now (left .entry)) (now (right .entry)) ⌝ }
+    ensures { λ r. ⌜ r ≡ handleOn c i s h (now (left .entry)) (now (right .entry)) ⌝ }
 {
-    let v = verdict(c, own, s, h);
+    let v = verdict(c, i == 0, s, h);
     match v {
-        Verdict::Refused(a) => Made {
-            answer: a,
-            value: 0,
-            slot: s,
-        },
-        Verdict::Admitted => act(c, s, h, left, right),
+        Verdict::Refused(a) => guards::made_of(c, a, 0, s),
+        Verdict::Admitted => act(c, i, s, h, left, right),
+    }
+}
+
+// ---- create
+
+// What speaks against a create.
+fn create_verdict(c: Control) -> Verdict
+    ensures { λ r. ⌜ r ≡ smallest (createSigns c) ⌝ }
+{
+    let p = c.phase;
+    let v = given(SLOTS <= c.free, Answer::SlotsFull, Verdict::Admitted);
+    given(
+        admission::entry(p, CREATE) == admission::LOCKED,
+        Answer::Locked,
+        v,
+    )
+}
+
+// A create: slot `c.free`, which is `s`, gets a new handle, and the one behind it is first; or refused with nothing changed.
+pub fn create(c: Control, s: Slot) -> Made
+    ensures { λ r. ⌜ r ≡ createOn c s ⌝ }
+{
+    let v = create_verdict(c);
+    match v {
+        Verdict::Refused(a) => guards::made_of(c, a, 0, s),
+        Verdict::Admitted => {
+            let i = c.free;
+            let k = s.link;
+            let t = guards::new_slot();
+            Made {
+                answer: Answer::Done,
+                value: i as u64,
+                slot: t,
+                free: order::behind(i, k),
+            }
+        }
     }
 }

@@ -4,6 +4,7 @@
 pub mod admission;
 pub mod guards;
 pub mod handles;
+pub mod order;
 pub mod truth;
 
 use table::Answer;
@@ -33,12 +34,20 @@ pub struct Guard {
     pub right: bool,
 }
 
-// A handle's own record.
+// What comes behind a free slot in the order in which they are handed out: the next number, if it was never used; and else the slot that
+// was first when it was freed, or the number of slots, if none was.
+pub enum Link {
+    Fresh,
+    To(usize),
+}
+
+// A handle's own record. The small fields stand together, so that it is 40 bytes long.
 pub struct Slot {
     pub used: bool,
+    pub due: Due,
     pub epoch: u64,
     pub guards: [Guard; GUARDS],
-    pub due: Due,
+    pub link: Link,
 }
 
 // What a publish is part of.
@@ -68,17 +77,19 @@ pub enum Phase {
 }
 
 // The pointer names the copy `right`, or named it before null. The log holds `length` operations, of which the first `swapped`
-// already stand in the copy that is read.
+// already stand in the copy that is read. The slot `free` is handed out next, and then the one that comes behind it. Of the
+// orders of these fields that were tried, this one costs the player's appends and publishes least.
 pub struct Control {
+    pub phase: Phase,
     pub right: bool,
     pub null: bool,
     pub lock: bool,
     pub first: bool,
     pub second: bool,
-    pub phase: Phase,
     pub job: Job,
     pub length: usize,
     pub swapped: usize,
+    pub free: usize,
 }
 
 pub struct State {
@@ -102,11 +113,12 @@ pub enum Verdict {
     Refused(Answer),
 }
 
-// What a call on a handle makes of its slot.
+// What create or a call on a handle makes of its slot, and which one is handed out next.
 pub struct Made {
     pub answer: Answer,
     pub value: u64,
     pub slot: Slot,
+    pub free: usize,
 }
 
 pub struct Reply {
@@ -129,6 +141,7 @@ pub fn fresh_state() -> State
         job: Job::Publish,
         length: 0,
         swapped: 0,
+        free: 1,
     };
     let free = guards::no_slot();
     let own = guards::new_slot();

@@ -9,10 +9,10 @@ use Rattle.read.specs.declared.Slot.{Slot}
 use Rattle.read.specs.declared.Phase.{Phase}
 use Rattle.read.specs.declared.Phase.the-variants.{Idle, Begin, Poll, Copy, Drain, Keep, Swap, Snap, Null, Lock, LastSnap, LastPoll, Finish, Gone}
 use Rattle.read.specs.declared.Control.{Control}
-use Rattle.read.specs.Handles.{freed, copyOf}
+use Rattle.read.specs.Handles.{copyOf}
 use Rattle.read.specs.Calls.{Lent, lent}
 use Rattle.write.specs.declared.Moved.{Moved}
-use Rattle.write.specs.Steps.{keeping, draining, beginning, lastSnapping, at, withLog, copied, swappedOver, nulled, snapping, drained, seen, holds, moved, refused, pollMove, lastPollMove, stepAt, ofLeft, ofRight, logApplied, over, unlogged}
+use Rattle.write.specs.Steps.{vacated, keeping, draining, beginning, lastSnapping, at, copied, swappedOver, nulled, finished, snapping, drained, seen, holds, moved, refused, pollMove, lastPollMove, stepAt, ofLeft, ofRight, logApplied, over, unlogged}
 use Rattle.write.proofs.Next.{snapping-here, last-snapping-here}
 
 -- what is lent, by its parts
@@ -113,7 +113,7 @@ module _ (c : Control) (s : Slot) (e : ℕ) (l r g : List ℕ) where
 
   pub step-finish :
       {m : Moved} {d : Control} {t : Slot} {l' r' g' : List ℕ} →
-      c .phase ≡ Finish → d ≡ withLog 0 0 c → t ≡ freed s → m ≡ moved (at Gone d) t e →
+      c .phase ≡ Finish → d ≡ finished s c → t ≡ vacated (c .free) s → m ≡ moved (at Gone d) t e →
       (l' ≡ ofLeft (c .right) zeros l) × (r' ≡ ofRight (c .right) zeros r) → g' ≡ zeros g →
       lent m l' r' g' ≡ stepAt (c .phase) c s e l r g
   unfolding stepAt

@@ -18,11 +18,11 @@ use Rattle.read.specs.declared.Phase.the-variants.{Idle, Begin, Poll, Copy, Dra
 use Rattle.read.specs.declared.Job.{Job}
 use Rattle.read.specs.declared.Job.the-variants.{Publish, Try, TakeFirst, TakeSecond}
 use Rattle.read.specs.declared.Control.{Control}
-use Rattle.read.specs.Machine.{slotCount, logRoom, locks, nulls, inRange, same, wholeControl}
+use Rattle.read.specs.Machine.{withFree, slotCount, logRoom, locks, nulls, inRange, same, wholeControl}
 use Rattle.write.specs.declared.Moved.{Moved}
 use Rattle.write.specs.declared.Opening.{Opening}
 use Rattle.write.specs.declared.Opening.the-variants as opening
-use Rattle.write.specs.Steps.{at, withLog, copied, swappedOver, nulled, nextJob, keeping, draining, polled, polling, beginning, published, lastPolling, lastSnapping, snapping, ended, holds, stopped, pollMove, lastPollMove, stepAt}
+use Rattle.write.specs.Steps.{at, withLog, copied, swappedOver, nulled, finished, nextJob, keeping, draining, polled, polling, beginning, published, lastPolling, lastSnapping, snapping, ended, holds, stopped, pollMove, lastPollMove, stepAt}
 use Rattle.write.specs.Begins.{appendOn, opened, openOn, taking}
 use Rattle.write.proofs.Cases.{withJob, append-cases, open-cases, keeping-cases, draining-cases, polled-cases, polling-cases, beginning-cases, lastPolling-cases, lastSnapping-cases, published-cases, snapping-cases}
 
@@ -145,6 +145,10 @@ pub whole-at :
     Fits (c .length) (c .swapped) null p → Whole (at p c)
 whole-at p c room within e f = record { room = room; within = within; placed = f .0; locked = refl; pointed = e ∙ f .1 }
 
+-- which slot is handed out next plays no part
+pub whole-free : (k : ℕ) {c : Control} → Whole c → Whole (withFree k c)
+whole-free k w = record { room = w .room; within = w .within; placed = w .placed; locked = w .locked; pointed = w .pointed }
+
 -- ---- a step
 
 whole-ended : (c : Control) → c .length ≤ logRoom → c .swapped ≤ c .length → c .null ≡ false → Whole (ended c)
@@ -191,7 +195,7 @@ module _ (c : Control) (w : Whole c) (s : Slot) (e : ℕ) where
     whole-stepAt (LastSnap k) f =
         whole-at (lastSnapping (k + 1)) c (w .room) (w .within) (f .1) (fits-lastSnapping (c .length) (c .swapped) (k + 1))
     whole-stepAt (LastPoll k) f = whole-lastPoll (holds s e) k (f .1)
-    whole-stepAt Finish f = whole-at Gone (withLog 0 0 c) (omega arith) (omega arith) (f .1) (tt, refl)
+    whole-stepAt Finish f = whole-at Gone (finished s c) (omega arith) (omega arith) (f .1) (tt, refl)
     whole-stepAt Gone f = w
 
     -- whatever it answers

@@ -1,4 +1,4 @@
--- What every call is judged on, as facts of the control part and of the lent words.
+-- What every call is judged on, as facts of the control part and of the lent words, and the order of the free slots.
 use Prim.Native.Nat.{ℕ, _≤_}
 use mathlib.Core.Path.{_≡_, refl, ap}
 use mathlib.Core.Bool.{Bool, true, false, not, _&&_}
@@ -13,9 +13,10 @@ use Rattle.table.specs.declared.Answer.the-variants as answer
 use Rattle.table.proofs.Seek.{seek-before, seek-none}
 use Rattle.table.proofs.Booleans.{both}
 use Rattle.read.specs.declared.Control.{Control}
+use Rattle.read.specs.declared.State.{State}
 use Rattle.read.specs.declared.Verdict.{Verdict}
 use Rattle.read.specs.declared.Verdict.the-variants.{Admitted, Refused}
-use Rattle.read.specs.Machine.{logWords, lawfulAt, firstUnlawful, sized, wholeControl, glanced, judged}
+use Rattle.read.specs.Machine.{logWords, lawfulAt, firstUnlawful, sized, wholeControl, orderly, glanced, judged}
 use Rattle.write.proofs.Count.{left}
 use Rattle.read.proofs.Verdicts.{refused-not}
 use Rattle.write.proofs.Control.{Whole, control-whole, whole-control}
@@ -53,24 +54,16 @@ module _ (c : Control) (l r g : List ℕ) where
   good-lawful : Good c l r g → firstUnlawful (c .length) g ≡ c .length
   good-lawful h = seek-none (λ i. not (lawfulAt g i)) (c .length) (λ i b. ap not (h .words .lawfully i b))
 
-  pub good-judged : Good c l r g → judged c l r g ≡ Admitted
-  unfolding judged
-  good-judged h =
-      let e : leb (c .length) (firstUnlawful (c .length) g) ≡ true = le-leb (c .length) _ (omega (arith, good-lawful h)) in
-      rw (good-glanced h, e, judged)
-
-  pub judged-good : judged c l r g ≡ Admitted → Good c l r g
-  unfolding judged glanced
-  judged-good e =
-      let a = passed-on (glanced c l r g) _ e in
-      let x = tested (leb (c .length) (firstUnlawful (c .length) g)) Admitted answer.Broken (a .1) in
-      let b = tested (sized l r g) _ answer.Length (a .0) in
+  -- what is seen at a glance, and that each logged operation is as its kind asks
+  glanced-good : glanced c l r g ≡ Admitted → c .length ≤ firstUnlawful (c .length) g → Good c l r g
+  unfolding glanced
+  glanced-good e k =
+      let b = tested (sized l r g) _ answer.Length e in
       let d = tested (leb (entries l) pairs && (leb (entries r) pairs && wholeControl c)) Admitted answer.Broken (b .1) in
       let s = both (eqb (length l) words) _ (b .0) in
       let t = both (eqb (length r) words) _ (s .1) in
       let m = both (leb (entries l) pairs) _ (d .0) in
       let n = both (leb (entries r) pairs) _ (m .1) in
-      let k : c .length ≤ firstUnlawful (c .length) g = leb-true _ _ (x .0) in
       record {
         whole = control-whole c (n .1);
         words =
@@ -81,3 +74,32 @@ module _ (c : Control) (l r g : List ℕ) where
               lawfully = λ i h. not-false _ (seek-before (λ j. not (lawfulAt g j)) (c .length) i (omega arith));
             };
       }
+
+module _ (st : State) (l r g : List ℕ) where
+  pub good-judged : Good (st .control) l r g → orderly st ≡ true → judged st l r g ≡ Admitted
+  unfolding judged
+  good-judged h o =
+      let c = st .control in
+      let e : leb (c .length) (firstUnlawful (c .length) g) ≡ true = le-leb (c .length) _ (omega (arith, good-lawful c l r g h)) in
+      rw (good-glanced c l r g h, e, o, judged)
+
+  admitted :
+      judged st l r g ≡ Admitted →
+      (let n = st .control .length in
+      (glanced (st .control) l r g ≡ Admitted) × ((leb n (firstUnlawful n g) && orderly st) ≡ true))
+  unfolding judged
+  admitted e =
+      let n = st .control .length in
+      let a = passed-on (glanced (st .control) l r g) _ e in
+      (a .0, tested (leb n (firstUnlawful n g) && orderly st) Admitted answer.Broken (a .1) .0)
+
+  pub judged-good : judged st l r g ≡ Admitted → Good (st .control) l r g
+  judged-good e =
+      let n = st .control .length in
+      let a = admitted e in
+      glanced-good (st .control) l r g (a .0) (leb-true _ _ (both (leb n (firstUnlawful n g)) (orderly st) (a .1) .0))
+
+  pub judged-orderly : judged st l r g ≡ Admitted → orderly st ≡ true
+  judged-orderly e =
+      let n = st .control .length in
+      both (leb n (firstUnlawful n g)) (orderly st) (admitted e .1) .1

@@ -1,14 +1,14 @@
 -- The count: how many steps are left of a call. A step that is made lowers it by one, and it is 0 exactly where no call is under way.
 use Prim.Native.Nat.{ℕ, zero, suc, _+_, _-_, _*_, _^_, _≤_, _<_}
 use mathlib.Core.Path.{_≡_, refl, sym, ap, _∙_}
-use mathlib.Core.Bool.{Bool, true, false, not, _&&_, true≢false}
+use mathlib.Core.Bool.{Bool, true, false, not, _&&_, Bool·beq, true≢false}
 use mathlib.Core.List.{List}
 use native.Mathlib.Omega.{arith}
 use native.Mathlib.Nat.{sub-zero}
 use Rattle.table.specs.Answers.{number}
 use Rattle.table.specs.declared.Answer.{Answer}
 use Rattle.table.specs.declared.Answer.the-variants as answer
-use Rattle.table.proofs.Split.{below}
+use Rattle.table.proofs.Split.{by, below}
 use Rattle.read.specs.declared.Slot.{Slot}
 use Rattle.read.specs.declared.Phase.{Phase}
 use Rattle.read.specs.declared.Phase.the-variants.{Idle, Begin, Poll, Copy, Drain, Keep, Swap, Snap, Null, Lock, LastSnap, LastPoll, Finish, Gone}
@@ -16,11 +16,11 @@ use Rattle.read.specs.declared.Job.{Job}
 use Rattle.read.specs.declared.Job.the-variants.{Publish, Try, TakeFirst, TakeSecond}
 use Rattle.read.specs.declared.Control.{Control}
 use Rattle.read.specs.Machine.{slotCount, logRoom, underway, isGone}
-use Rattle.read.specs.Handles.{bit}
+use Rattle.read.specs.Handles.{freed, bit}
 use Rattle.read.specs.Calls.{Lent, lent}
 use Rattle.read.proofs.Phases.{idle-cases}
 use Rattle.write.specs.declared.Moved.{Moved}
-use Rattle.write.specs.Steps.{at, withLog, copied, swappedOver, nextJob, keeping, draining, polled, polling, beginning, published, lastPolling, lastSnapping, snapping, holds, moved, refused, stopped, pollMove, lastPollMove, stepAt}
+use Rattle.write.specs.Steps.{at, withLog, copied, swappedOver, nextJob, keeping, draining, polled, polling, beginning, published, lastPolling, lastSnapping, snapping, holds, vacated, moved, refused, stopped, pollMove, lastPollMove, stepAt}
 use Rattle.write.specs.Scans.{polls, stopAnswer, haltAnswer}
 use Rattle.write.proofs.Count.{lastLeft, afterLeft, snapLeft, swapLeft, drainLeft, polledLeft, beginLeft, leftAt, left}
 use Rattle.write.proofs.Cases.{withJob, keeping-cases, draining-cases, polled-cases, polling-cases, beginning-cases, lastPolling-cases, lastSnapping-cases, snapping-cases}
@@ -107,50 +107,63 @@ answered stops goes p j =
 abbrev pub outcome : Phase → Job → Bool → Answer
 outcome p j held = answered (polls p && held) (underway p) p j
 
--- a step frees a slot, and changes nothing else of it
-abbrev pub usedAs : Slot → Slot → Slot
-usedAs s t = record { used = t .used; epoch = s .epoch; guards = s .guards; due = s .due }
+-- a slot that is in use as t is: freed where they differ, k being first
+abbrev pub usedAs : ℕ → Slot → Slot → Slot
+usedAs k s t = elim (Bool·beq (s .used) (t .used)) [ true ↦ s | false ↦ freed k s ]
+
+same-use : (k : ℕ) (s : Slot) (b : Bool) → s ≡ elim (Bool·beq b b) [ true ↦ s | false ↦ freed k s ]
+same-use k s true = refl
+same-use k s false = refl
 
 module _ (c : Control) (s : Slot) (e : ℕ) where
+  -- a step leaves its slot as it is, or frees it
   abbrev Told : Answer → Moved → Type 0
-  Told a m = (m .answer ≡ a) × (m .slot ≡ usedAs s (m .slot))
+  Told a m = (m .answer ≡ a) × (m .slot ≡ usedAs (c .free) s (m .slot))
+
+  left-alone : s ≡ usedAs (c .free) s s
+  left-alone = same-use (c .free) s (s .used)
+
+  left-vacated : (let t = vacated (c .free) s in t ≡ usedAs (c .free) s t)
+  left-vacated =
+      by (λ (t : Slot). t ≡ usedAs (c .free) s t) (s .used)
+      (λ u. ap (λ (b : Bool). elim (Bool·beq b false) [ true ↦ s | false ↦ freed (c .free) s ]) (sym u)) (λ u. left-alone)
 
   stopped-told : (j : Job) → Told (stopAnswer j) (stopped j c s e)
-  stopped-told Publish = (refl, refl)
-  stopped-told Try = (refl, refl)
-  stopped-told TakeFirst = (refl, refl)
-  stopped-told TakeSecond = (refl, refl)
+  stopped-told Publish = (refl, left-alone)
+  stopped-told Try = (refl, left-alone)
+  stopped-told TakeFirst = (refl, left-alone)
+  stopped-told TakeSecond = (refl, left-alone)
 
   poll-told : (held : Bool) (k : ℕ) → Told (outcome (Poll k) (c .job) held) (pollMove held k c s e)
   poll-told true k = stopped-told (c .job)
-  poll-told false k = (refl, refl)
+  poll-told false k = (refl, left-alone)
 
   lastPoll-told : (held : Bool) (k : ℕ) → Told (outcome (LastPoll k) (c .job) held) (lastPollMove held k c s e)
-  lastPoll-told true k = (refl, refl)
-  lastPoll-told false k = (refl, refl)
+  lastPoll-told true k = (refl, left-alone)
+  lastPoll-told false k = (refl, left-alone)
 
   module _ (l r g : List ℕ) where
     step-told : (p : Phase) → Told (outcome p (c .job) (holds s e)) (stepAt p c s e l r g .made)
     unfolding stepAt
-    step-told Idle = (refl, refl)
-    step-told Begin = (refl, refl)
+    step-told Idle = (refl, left-alone)
+    step-told Begin = (refl, left-alone)
     step-told (Poll k) = poll-told (holds s e) k
-    step-told Copy = (refl, refl)
-    step-told Drain = (refl, refl)
-    step-told (Keep k) = (refl, refl)
-    step-told Swap = (refl, refl)
-    step-told (Snap k) = (refl, refl)
-    step-told Null = (refl, refl)
-    step-told Lock = (refl, refl)
-    step-told (LastSnap k) = (refl, refl)
+    step-told Copy = (refl, left-alone)
+    step-told Drain = (refl, left-alone)
+    step-told (Keep k) = (refl, left-alone)
+    step-told Swap = (refl, left-alone)
+    step-told (Snap k) = (refl, left-alone)
+    step-told Null = (refl, left-alone)
+    step-told Lock = (refl, left-alone)
+    step-told (LastSnap k) = (refl, left-alone)
     step-told (LastPoll k) = lastPoll-told (holds s e) k
-    step-told Finish = (refl, refl)
-    step-told Gone = (refl, refl)
+    step-told Finish = (refl, left-vacated)
+    step-told Gone = (refl, left-alone)
 
     pub step-answer : (p : Phase) → stepAt p c s e l r g .made .answer ≡ outcome p (c .job) (holds s e)
     step-answer p = step-told p .0
 
-    pub step-slot : (p : Phase) → stepAt p c s e l r g .made .slot ≡ usedAs s (stepAt p c s e l r g .made .slot)
+    pub step-slot : (p : Phase) → (let t = stepAt p c s e l r g .made .slot in t ≡ usedAs (c .free) s t)
     step-slot p = step-told p .1
 
 -- a step that is no poll is made

@@ -8,6 +8,7 @@ pub mod RunLaws
 pub mod Words
 pub mod Judged
 pub mod Refusals
+pub mod Reorders
 pub mod NeverBroken
 pub mod Next
 pub mod Lent

@@ -1,9 +1,10 @@
 -- A machine that the rules reach from the fresh one is never broken: no call on it answers 1 or 2.
 use Prim.Native.Nat.{ℕ, _-_}
 use mathlib.Core.Path.{_≡_, refl, sym, subst, _∙_}
+use mathlib.Core.Bool.{true}
 use mathlib.Core.List.{List}
 use native.Mathlib.Omega.{arith}
-use lib.ListN.{length, replicate, length-set, length-replicate}
+use lib.ListN.{length, set, replicate, length-set, length-replicate}
 use Rattle.table.specs.Copy.{words}
 use Rattle.table.proofs.CopyFit.{fit-empty}
 use Rattle.table.proofs.Split.{below}
@@ -12,11 +13,13 @@ use Rattle.read.specs.declared.Slot.{Slot}
 use Rattle.read.specs.declared.Control.{Control}
 use Rattle.read.specs.declared.State.{State}
 use Rattle.read.specs.declared.Handle.{Handle}
+use Rattle.read.specs.declared.Made.{Made}
 use Rattle.read.specs.declared.Reply.{Reply}
 use Rattle.read.specs.declared.Verdict.the-variants.{Admitted}
-use Rattle.read.specs.Machine.{slotCount, logWords, judged, fresh, newSlot, noSlot, place}
-use Rattle.read.specs.Handles.{smallest}
-use Rattle.read.specs.Calls.{Lent, lent, slotAt, withSlot, handleReply, createReply, createSigns, firstFree}
+use Rattle.read.specs.Machine.{slotCount, logWords, orderly, judged, fresh, noSlot, withFree, place}
+use Rattle.read.specs.Handles.{smallest, handleOn, createOn}
+use Rattle.read.specs.Calls.{Lent, lent, slotAt, replyOf, handleReply, createReply}
+use Rattle.read.proofs.Orderly.{orderly-fresh}
 use Rattle.write.specs.declared.Moved.{Moved}
 use Rattle.write.specs.declared.Opening.{Opening}
 use Rattle.write.specs.declared.Opening.the-variants as opening
@@ -27,9 +30,10 @@ use Rattle.write.specs.Runs.{snapAt, lift, stepOn, enough, runWhile, run
 use Rattle.write.specs.Machine.{going, callOn, callRule}
 use Rattle.write.proofs.Verdicts.{judging}
 use Rattle.write.proofs.Cases.{open-cases, run-keeps}
-use Rattle.write.proofs.Control.{some-slot, whole-step, whole-append, whole-open}
+use Rattle.write.proofs.Control.{some-slot, whole-free, whole-step, whole-append, whole-open}
 use Rattle.write.proofs.Judged.{Good, good-judged}
 use Rattle.write.proofs.Words.{Words, words-step, words-append}
+use Rattle.write.proofs.Reorders.{Reorders, orderly-left, reorders-create, reorders-handle, reorders-step, reorders-append, reorders-open}
 
 -- a beginning leaves the log as it is
 opened-length : (o : Opening) (c : Control) (s : Slot) (e : ℕ) → opened o c s e .control .length ≡ c .length
@@ -46,11 +50,12 @@ open-length o c s e = open-cases (λ m. m .control .length ≡ c .length) o c s 
 
 pub record Sound (st : State) (l r g : List ℕ) : Type 0 where
   pub good : Good (st .control) l r g
+  pub ordered : orderly st ≡ true
   pub slots : length (st .slots) ≡ slotCount
   pub snapshots : length (st .snapshots) ≡ slotCount
 
-pub sound-judged : {st : State} {l r g : List ℕ} → Sound st l r g → judged (st .control) l r g ≡ Admitted
-sound-judged {st} {l} {r} {g} h = good-judged (st .control) l r g (h .good)
+pub sound-judged : {st : State} {l r g : List ℕ} → Sound st l r g → judged st l r g ≡ Admitted
+sound-judged {st} {l} {r} {g} h = good-judged st l r g (h .good) (h .ordered)
 
 pub sound-fresh : Sound fresh (replicate words 0) (replicate words 0) (replicate logWords 0)
 sound-fresh = record {
@@ -58,6 +63,7 @@ sound-fresh = record {
     whole = record { room = omega arith; within = omega arith; placed = tt; locked = refl; pointed = refl };
     words = record { left = fit-empty; right = fit-empty; log = length-replicate {A = ℕ} logWords 0; lawfully = λ i h. absurd (omega arith) };
   };
+  ordered = orderly-fresh;
   slots = rw (length-replicate (slotCount - 1) noSlot) (omega (arith, some-slot));
   snapshots = length-replicate {A = ℕ} slotCount 0;
 }
@@ -68,26 +74,41 @@ SoundOut o = Sound (o .made .state) (o .left) (o .right) (o .log)
 
 -- ---- the calls
 
--- a move at one slot that leaves control part and words good
+-- a move at one slot that leaves control part, words and order good
 sound-lift :
     {st : State} {l r g : List ℕ} (i : ℕ) (m : Lent Moved) → Sound st l r g → Good (m .made .control) (m .left) (m .right) (m .log) →
-    SoundOut (lift i st m)
-sound-lift {st} i m h d = record {
+    Reorders i (st .control .free) (slotAt st i) (m .made .control .free) (m .made .slot) → SoundOut (lift i st m)
+sound-lift {st} i m h d o = record {
   good = d;
+  ordered = orderly-left st (h .slots) (h .ordered) o (m .made .control) (set (st .snapshots) i (m .made .snapshot)) refl;
   slots = length-set (st .slots) i (m .made .slot) ∙ h .slots;
   snapshots = length-set (st .snapshots) i (m .made .snapshot) ∙ h .snapshots;
 }
 
-sound-slot : {st : State} {l r g : List ℕ} (i : ℕ) (s : Slot) → Sound st l r g → Sound (withSlot i s st) l r g
-sound-slot {st} i s h = record { good = h .good; slots = length-set (st .slots) i s ∙ h .slots; snapshots = h .snapshots }
+sound-replied :
+    {st : State} {l r g : List ℕ} (i : ℕ) (m : Made) → Sound st l r g →
+    Reorders i (st .control .free) (slotAt st i) (m .free) (m .slot) → SoundOut (lent (replyOf i m st) l r g)
+sound-replied {st} i m h o = record {
+  good = record { whole = whole-free (m .free) (h .good .whole); words = h .good .words };
+  ordered = orderly-left st (h .slots) (h .ordered) o (withFree (m .free) (st .control)) (st .snapshots) refl;
+  slots = length-set (st .slots) i (m .slot) ∙ h .slots;
+  snapshots = h .snapshots;
+}
 
 module _ (st : State) (l r g : List ℕ) (h : Sound st l r g) where
-  sound-create : (i : ℕ) → SoundOut (lent (createReply i st) l r g)
-  sound-create i =
-      judging (λ (a : Reply). SoundOut (lent a l r g)) (smallest (createSigns (st .control) i)) (λ v. sound-slot i newSlot h) (λ a v. h)
+  sound-create : SoundOut (lent (createReply st) l r g)
+  sound-create =
+      let c = st .control in
+      let s = slotAt st (c .free) in
+      sound-replied (c .free) (createOn c s) h (reorders-create c s)
 
   sound-handle : (i : ℕ) (k : Handle) → SoundOut (lent (handleReply i k l r st) l r g)
-  sound-handle i k = below (λ (a : Reply). SoundOut (lent a l r g)) i slotCount (λ b. sound-slot i _ h) (λ b. h)
+  sound-handle i k = below (λ (a : Reply). SoundOut (lent a l r g)) i slotCount
+      (λ b.
+      let c = st .control in
+      let s = slotAt st i in
+      sound-replied i (handleOn c i s k l r) h (reorders-handle c i s b k l r))
+      (λ b. h)
 
   sound-append : (os : List Op) → SoundOut (lift 0 st (appendOn os (st .control) (slotAt st 0) (snapAt st 0) l r g))
   sound-append os =
@@ -99,6 +120,7 @@ module _ (st : State) (l r g : List ℕ) (h : Sound st l r g) where
         whole = whole-append c (h .good .whole) s e os l r g;
         words = words-append c s e l r g (h .good .words) os;
       })
+      (reorders-append c s e l r g os)
 
   sound-open : (o : Opening) → SoundOut (lift 0 st (lent (openOn o (st .control) (slotAt st 0) (snapAt st 0)) l r g))
   sound-open o =
@@ -107,6 +129,7 @@ module _ (st : State) (l r g : List ℕ) (h : Sound st l r g) where
       let e = snapAt st 0 in
       sound-lift 0 (lent (openOn o c s e) l r g) h
       (record { whole = whole-open c (h .good .whole) s e o; words = subst (λ (n : ℕ). Words n l r g) (sym (open-length o c s e)) (h .good .words) })
+      (reorders-open c s e o)
 
   pub sound-step : SoundOut (stepOn st l r g)
   unfolding stepOn
@@ -120,6 +143,7 @@ module _ (st : State) (l r g : List ℕ) (h : Sound st l r g) where
         whole = whole-step c (h .good .whole) s e l r g;
         words = words-step c s e l r g (h .good .words) (h .good .whole);
       })
+      (reorders-step c s e l r g (c .phase))
 
 pub sound-run : (k n : ℕ) (st : State) (l r g : List ℕ) → Sound st l r g → SoundOut (runWhile stepOn k n st l r g)
 sound-run =
@@ -134,7 +158,7 @@ sound-going column rule st l r g h x = judging SoundOut (smallest (stepSigns col
 -- every call keeps it, whatever it answers
 pub sound-callOn : (k : Call) (st : State) (l r g : List ℕ) → Sound st l r g → SoundOut (callOn k st l r g)
 unfolding callOn runOn
-sound-callOn Create st l r g h = sound-create st l r g h (firstFree (st .slots))
+sound-callOn Create st l r g h = sound-create st l r g h
 sound-callOn (On i k) st l r g h = sound-handle st l r g h i k
 sound-callOn (Append os) st l r g h = sound-append st l r g h os
 sound-callOn (Open o) st l r g h = sound-open st l r g h o

@@ -13,9 +13,9 @@ use Rattle.read.specs.declared.Job.{Job}
 use Rattle.read.specs.declared.Job.the-variants.{Try, TakeFirst}
 use Rattle.read.specs.declared.Control.{Control}
 use Rattle.read.specs.Machine.{slotTotal, slotCount, underway}
-use Rattle.read.specs.Handles.{bit}
+use Rattle.read.specs.Handles.{freed, bit}
 use Rattle.write.specs.declared.Moved.{Moved}
-use Rattle.write.specs.Steps.{keeping, draining, polled, polling, beginning, published, lastPolling, lastSnapping, at, withLog, ended, snapping, drained, holds, moved, refused, stopped, pollMove, lastPollMove}
+use Rattle.write.specs.Steps.{vacated, keeping, draining, polled, polling, beginning, published, lastPolling, lastSnapping, at, withLog, ended, snapping, drained, holds, moved, refused, stopped, pollMove, lastPollMove}
 
 -- what a call's contract says of its result, and what a test found of it
 pub found : {A : Type 0} {r x y : A} → r ≡ x → r ≡ y → x ≡ y
@@ -105,6 +105,10 @@ holds-even s e u o = rw (holds, u, ne-eqb (e % 2) 1 o)
 
 pub holds-free : (s : Slot) (e : ℕ) → s .used ≡ false → false ≡ holds s e
 holds-free s e u = rw (holds, u)
+
+-- freed, where it was in use
+pub vacated-used : (k : ℕ) (s : Slot) {r : Slot} → s .used ≡ true → r ≡ freed k s → r ≡ vacated k s
+vacated-used k s u h = h ∙ ap (λ (b : Bool). elim b as (λ _. Slot) [ true ↦ freed k s | false ↦ s ]) (sym u)
 
 -- ---- a move
 

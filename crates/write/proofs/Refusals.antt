@@ -1,7 +1,7 @@
 -- A call that is refused changes nothing and has value 0; and no call below the judgement answers 1 or 2.
 use Prim.Native.Nat.{ℕ, suc, _≤_, _<_}
 use mathlib.Core.Path.{_≡_, refl, sym, ap, subst}
-use mathlib.Core.Bool.{Bool, true}
+use mathlib.Core.Bool.{true}
 use mathlib.Core.List.{List}
 use mathlib.Core.Logic.{_⊎_, inl, inr, _≢_}
 use native.Mathlib.Omega.{arith}
@@ -23,8 +23,8 @@ use Rattle.read.specs.declared.Made.{Made}
 use Rattle.read.specs.declared.Reply.{Reply}
 use Rattle.read.specs.declared.Verdict.the-variants.{Admitted}
 use Rattle.read.specs.Machine.{slotCount, noSlot, anyOpen, underway, judged, place}
-use Rattle.read.specs.Handles.{smallest, handleSigns, loaded, wentOn, handled, handleOn}
-use Rattle.read.specs.Calls.{Lent, lent, slotAt, withSlot, refusal, handleReply, createReply, createSigns, firstFree}
+use Rattle.read.specs.Handles.{smallest, handleSigns, createSigns, madeOf, loaded, wentOn, handled, handleOn, createOn}
+use Rattle.read.specs.Calls.{Lent, lent, slotAt, refusal, replyOf, handleReply, createReply}
 use Rattle.write.specs.declared.Moved.{Moved}
 use Rattle.write.specs.declared.Opening.{Opening}
 use Rattle.write.specs.declared.Opening.the-variants as opening
@@ -37,7 +37,7 @@ use Rattle.read.proofs.Verdicts.{refused-mild}
 use Rattle.write.proofs.Verdicts.{judging, step-underway}
 use Rattle.write.proofs.Cases.{append-cases, open-cases, run-keeps}
 use Rattle.write.proofs.Left.{Stepped, done, held, declined, step-stepped}
-use Rattle.read.proofs.Cases.{stateOf}
+use Rattle.read.proofs.Cases.{stateOf, reply-back}
 
 -- ---- the kinds of a reply
 
@@ -48,8 +48,8 @@ pub data Kind {A : Type 0} (answered : A → Answer) (same : Answer → A) (b : 
   over : {x : A} → b < number (answered x) → Kind answered same b x
 
 -- of a slot, of a move, and of a whole call
-abbrev KindMade : Slot → Made → Type 0
-KindMade s m = Kind {A = Made} (λ x. x .answer) (λ a. record { answer = a; value = 0; slot = s }) 13 m
+abbrev KindMade : Control → Slot → Made → Type 0
+KindMade c s m = Kind {A = Made} (λ x. x .answer) (λ a. madeOf c a 0 s) 13 m
 
 abbrev KindMoved : Control → Slot → ℕ → Moved → Type 0
 KindMoved c s e m = Kind {A = Moved} (λ x. x .answer) (λ a. refused a c s e) 13 m
@@ -69,28 +69,34 @@ declined-over = omega arith
 -- ---- on one slot
 
 module _ (c : Control) (s : Slot) where
-  kind-loaded : (d : Due) → KindMade s (loaded c d s)
-  kind-loaded d = by (KindMade s) (c .null) (λ e. over none-over) (λ e. made refl)
+  kind-loaded : (d : Due) → KindMade c s (loaded c d s)
+  kind-loaded d = by (KindMade c s) (c .null) (λ e. over none-over) (λ e. made refl)
 
-  kind-wentOn : (d : Due) → KindMade s (wentOn c d s)
+  kind-wentOn : (d : Due) → KindMade c s (wentOn c d s)
   kind-wentOn Nothing = kept answer.NotNow (omega arith)
   kind-wentOn Load = kind-loaded Restore
   kind-wentOn Restore = over none-over
 
-  kind-handled : (h : Handle) (l r : List ℕ) → KindMade s (handled c s h l r)
+  kind-handled : (i : ℕ) (h : Handle) (l r : List ℕ) → KindMade c s (handled c i s h l r)
   unfolding handled
-  kind-handled Drop l r = made refl
-  kind-handled Enter l r = by (KindMade s) (anyOpen (s .guards)) (λ e. kind-loaded (s .due)) (λ e. made refl)
-  kind-handled GoOn l r = kind-wentOn (s .due)
-  kind-handled (Release j) l r = made refl
-  kind-handled (LookUp j key) l r = made refl
-  kind-handled WasDropped l r = made refl
+  kind-handled i Drop l r = made refl
+  kind-handled i Enter l r = by (KindMade c s) (anyOpen (s .guards)) (λ e. kind-loaded (s .due)) (λ e. made refl)
+  kind-handled i GoOn l r = kind-wentOn (s .due)
+  kind-handled i (Release j) l r = made refl
+  kind-handled i (LookUp j key) l r = made refl
+  kind-handled i WasDropped l r = made refl
 
-  kind-handle : (own : Bool) (h : Handle) (l r : List ℕ) → KindMade s (handleOn c own s h l r)
+  kind-handle : (i : ℕ) (h : Handle) (l r : List ℕ) → KindMade c s (handleOn c i s h l r)
   unfolding handleOn
-  kind-handle own h l r =
-      let signs = handleSigns c own s h in
-      judging (KindMade s) (smallest signs) (λ v. kind-handled h l r) (λ a v. kept a (refused-mild signs refl a v .0))
+  kind-handle i h l r =
+      let signs = handleSigns c (eqb i 0) s h in
+      judging (KindMade c s) (smallest signs) (λ v. kind-handled i h l r) (λ a v. kept a (refused-mild signs refl a v .0))
+
+  kind-new : KindMade c s (createOn c s)
+  unfolding createOn
+  kind-new =
+      let signs = createSigns c in
+      judging (KindMade c s) (smallest signs) (λ v. made refl) (λ a v. kept a (refused-mild signs refl a v .0))
 
 module _ (c : Control) (s : Slot) (e : ℕ) where
   kind-opened : (o : Opening) → KindMoved c s e (opened o c s e)
@@ -126,31 +132,23 @@ module _ (st : State) (l r g : List ℕ) where
   kind-lift i m (kept a h) = subst (KindCall 13 st l r g) (sym (lifted-same i a)) (kept a h)
   kind-lift i m (over h) = over h
 
-  -- the state with slot i as a call on its handle makes it
-  abbrev replied : ℕ → Made → Reply
-  replied i m = record { answer = m .answer; value = m .value; state = withSlot i (m .slot) st }
-
-  replied-same :
-      (i : ℕ) (a : Answer) → lent (replied i (record { answer = a; value = 0; slot = slotAt st i })) l r g ≡ lent (refusal a st) l r g
-  replied-same i a =
-      λ k. lent (refusal a (stateOf (st .control) (set-getD (st .slots) i noSlot k) (st .snapshots))) l r g
-
-  kind-replied : (i : ℕ) (m : Made) → KindMade (slotAt st i) m → KindCall 13 st l r g (lent (replied i m) l r g)
+  kind-replied : (i : ℕ) (m : Made) → KindMade (st .control) (slotAt st i) m → KindCall 13 st l r g (lent (replyOf i m st) l r g)
   kind-replied i m (made z) = made z
-  kind-replied i m (kept a h) = subst (KindCall 13 st l r g) (sym (replied-same i a)) (kept a h)
+  kind-replied i m (kept a h) =
+      subst (λ (x : Reply). KindCall 13 st l r g (lent x l r g)) (sym (reply-back i a 0 st)) (kept a h)
   kind-replied i m (over h) = over h
 
-  kind-create : (i : ℕ) → KindCall 13 st l r g (lent (createReply i st) l r g)
-  kind-create i =
-      let signs = createSigns (st .control) i in
-      judging (λ (a : Reply). KindCall 13 st l r g (lent a l r g)) (smallest signs) (λ v. made refl) (λ a v. kept a (refused-mild signs refl a v .0))
+  kind-create : KindCall 13 st l r g (lent (createReply st) l r g)
+  kind-create =
+      let c = st .control in
+      let s = slotAt st (c .free) in
+      kind-replied (c .free) (createOn c s) (kind-new c s)
 
   kind-on : (i : ℕ) (h : Handle) → KindCall 13 st l r g (lent (handleReply i h l r st) l r g)
   kind-on i h =
       below (λ (a : Reply). KindCall 13 st l r g (lent a l r g)) i slotCount
       (λ b.
-      kind-replied i (handleOn (st .control) (eqb i 0) (slotAt st i) h l r)
-      (kind-handle (st .control) (slotAt st i) (eqb i 0) h l r))
+      kind-replied i (handleOn (st .control) i (slotAt st i) h l r) (kind-handle (st .control) (slotAt st i) i h l r))
       (λ b. kept answer.NoSlot (omega arith))
 
   kind-begin : (m : Moved) → KindMoved (st .control) (slotAt st 0) (snapAt st 0) m → KindCall 13 st l r g (lift 0 st (lent m l r g))
@@ -215,7 +213,7 @@ stillUpTo Run = 12
 module _ (st : State) (l r g : List ℕ) where
   pub kind-callOn : (k : Call) → KindCall (stillUpTo k) st l r g (callOn k st l r g)
   unfolding callOn runOn
-  kind-callOn Create = kind-create st l r g (firstFree (st .slots))
+  kind-callOn Create = kind-create st l r g
   kind-callOn (On i h) = kind-on st l r g i h
   kind-callOn (Append os) =
       kind-lift st l r g 0 (appendOn os (st .control) (slotAt st 0) (snapAt st 0) l r g)
@@ -242,7 +240,7 @@ module _ (st : State) (l r g : List ℕ) where
       judging
       (λ (o : Lent Reply).
       1 ≤ number (o .made .answer) → number (o .made .answer) ≤ stillUpTo k → o ≡ lent (refusal (o .made .answer) st) l r g)
-      (judged (st .control) l r g) (λ v. kept-same (kind-callOn k)) (λ a v x y. refl)
+      (judged st l r g) (λ v. kept-same (kind-callOn k)) (λ a v x y. refl)
 
 -- below the judgement neither 1 nor 2 is answered
 unbroken-kind :

@@ -7,7 +7,7 @@ use Rattle.read.specs.declared.State.{State}
 use Rattle.read.specs.declared.Reply.{Reply}
 use Rattle.read.specs.Machine.{judged}
 use Rattle.read.specs.Handles.{smallest}
-use Rattle.read.specs.Calls.{Lent, lent, slotAt, refusal, handleReply, createReply, firstFree}
+use Rattle.read.specs.Calls.{Lent, lent, slotAt, refusal, handleReply, createReply}
 use Rattle.write.specs.Call.{Call, Create, On, Append, Open, Step, Run}
 use Rattle.write.specs.Begins.{stepSigns, appendOn, openOn}
 use Rattle.write.specs.Runs.{snapAt, lift, stepOn, runOn}
@@ -32,7 +32,7 @@ goingRule false = stepOn
 
 -- a call, below the judgement
 unfoldable pub callOn : Call → State → List ℕ → List ℕ → List ℕ → Lent Reply
-callOn Create st l r g = lent (createReply (firstFree (st .slots)) st) l r g
+callOn Create st l r g = lent (createReply st) l r g
 callOn (On i h) st l r g = lent (handleReply i h l r st) l r g
 callOn (Append os) st l r g = lift 0 st (appendOn os (st .control) (slotAt st 0) (snapAt st 0) l r g)
 callOn (Open o) st l r g = lift 0 st (lent (openOn o (st .control) (slotAt st 0) (snapAt st 0)) l r g)
@@ -42,4 +42,4 @@ callOn Run st l r g = going 13 runOn st l r g
 -- a call
 unfoldable pub callRule : Call → State → List ℕ → List ℕ → List ℕ → Lent Reply
 callRule k st l r g =
-    elim (judged (st .control) l r g) [ Admitted ↦ callOn k st l r g | Refused a ↦ lent (refusal a st) l r g ]
+    elim (judged st l r g) [ Admitted ↦ callOn k st l r g | Refused a ↦ lent (refusal a st) l r g ]

@@ -13,7 +13,7 @@ use Rattle.read.specs.declared.Phase.the-variants.{Idle, Begin, Poll, Copy, Dra
 use Rattle.read.specs.declared.Job.{Job}
 use Rattle.read.specs.declared.Job.the-variants.{Publish, Try, TakeFirst, TakeSecond}
 use Rattle.read.specs.declared.Control.{Control}
-use Rattle.read.specs.Machine.{slotCount, logRoom, underway, standing, holding}
+use Rattle.read.specs.Machine.{slotCount, logRoom, underway, standing, holding, withFree}
 use Rattle.read.specs.Handles.{freed, copyOf, bit}
 use Rattle.read.specs.Calls.{Lent, lent}
 use Rattle.write.specs.declared.Moved.{Moved}
@@ -27,6 +27,13 @@ holds s e = s .used && (eqb (e % 2) 1 && eqb e (s .epoch))
 -- a used slot's epoch becomes its snapshot
 abbrev pub seen : Slot → ℕ → ℕ
 seen s e = elim (s .used) [ true ↦ s .epoch | false ↦ e ]
+
+-- slot 0 is freed, unless it is free already, k being first; and which one is first then
+abbrev pub vacated : ℕ → Slot → Slot
+vacated k s = elim (s .used) [ true ↦ freed k s | false ↦ s ]
+
+abbrev pub firstThen : ℕ → Slot → ℕ
+firstThen k s = elim (s .used) [ true ↦ 0 | false ↦ k ]
 
 -- ---- where the writer goes on, when all before is done
 
@@ -86,6 +93,10 @@ swappedOver c = holding (not (c .right)) (c .null) false (c .second) (c .length)
 
 abbrev pub nulled : Control → Control
 nulled c = holding (c .right) true (c .first) (c .second) (c .length) (c .swapped) c
+
+-- take's finish: the log is empty, and slot 0, which is s, is free
+abbrev pub finished : Slot → Control → Control
+finished s c = withLog 0 0 (withFree (firstThen (c .free) s) c)
 
 -- a publish ends
 abbrev pub ended : Control → Control
@@ -171,5 +182,5 @@ stepAt Lock c s e l r g = lent (moved (at (lastSnapping 0) c) s e) l r g
 stepAt (LastSnap k) c s e l r g = lent (moved (at (lastSnapping (k + 1)) c) s (seen s e)) l r g
 stepAt (LastPoll k) c s e l r g = lent (lastPollMove (holds s e) k c s e) l r g
 stepAt Finish c s e l r g =
-    lent (moved (at Gone (withLog 0 0 c)) (freed s) e) (ofLeft (c .right) zeros l) (ofRight (c .right) zeros r) (zeros g)
+    lent (moved (at Gone (finished s c)) (vacated (c .free) s) e) (ofLeft (c .right) zeros l) (ofRight (c .right) zeros r) (zeros g)
 stepAt Gone c s e l r g = lent (refused answer.Gone c s e) l r g

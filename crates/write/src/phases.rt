@@ -3,12 +3,13 @@ use read::Control;
 use read::Job;
 use read::Phase;
 use read::SLOTS;
+use read::Slot;
 use read::admission;
 ghost use mathlib.Core.Path.{_≡_};
 ghost use Prim.Native.Nat.{_+_, _-_};
 ghost use Rattle.read.specs.Machine.{standing as standingRule, underway as underwayRule};
 ghost use Rattle.write.specs.Steps.{keeping, draining as drainingRule, polled as polledRule, polling as pollingRule, beginning as beginningRule, published as publishedRule, nextJob, lastPolling, lastSnapping};
-ghost use Rattle.write.specs.Steps.{at as atRule, withLog, copied as copiedRule, swappedOver, nulled as nulledRule, ended as endedRule, snapping, drained as drainedRule};
+ghost use Rattle.write.specs.Steps.{at as atRule, withLog, copied as copiedRule, swappedOver, nulled as nulledRule, firstThen, finished as finishedRule, ended as endedRule, snapping, drained as drainedRule};
 
 const LAST: usize = SLOTS - 1;
 
@@ -181,6 +182,7 @@ pub(crate) fn standing(p: Phase, job: Job, c: Control) -> Control
         job: job,
         length: c.length,
         swapped: c.swapped,
+        free: c.free,
     }
 }
 
@@ -226,6 +228,24 @@ pub(crate) fn nulled(c: Control) -> Control
 {
     let mut d = c;
     d.null = true;
+    d
+}
+
+// Which slot is handed out next behind take's finish: slot 0, which is `s`, unless it was free already.
+fn first_then(k: usize, s: Slot) -> usize
+    ensures { λ r. ⌜ r ≡ firstThen k s ⌝ }
+{
+    if s.used { 0 } else { k }
+}
+
+// Take's finish: the log is empty, and slot 0 is free.
+pub(crate) fn finished(s: Slot, c: Control) -> Control
+    ensures { λ r. ⌜ r ≡ finishedRule s c ⌝ }
+{
+    let mut d = c;
+    d.length = 0;
+    d.swapped = 0;
+    d.free = first_then(c.free, s);
     d
 }
 

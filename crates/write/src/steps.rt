@@ -11,7 +11,7 @@ use table::Answer;
 ghost use mathlib.Core.Path.{_≡_};
 ghost use Rattle.read.specs.Calls.{lent};
 ghost use Rattle.read.specs.Machine.{place as placeRule};
-ghost use Rattle.write.specs.Steps.{at, holds as holdsRule, seen as seenRule, moved as movedRule, refused as refusedRule, stopped as stoppedRule, pollMove, lastPollMove, stepAt};
+ghost use Rattle.write.specs.Steps.{at, vacated as vacatedRule, holds as holdsRule, seen as seenRule, moved as movedRule, refused as refusedRule, stopped as stoppedRule, pollMove, lastPollMove, stepAt};
 
 // A poll is held: the slot is in use, and its epoch is still the odd one of its snapshot.
 pub fn holds(s: Slot, e: u64) -> bool
@@ -30,6 +30,16 @@ fn seen(s: Slot, e: u64) -> u64
     ensures { λ r. ⌜ r ≡ seenRule s e ⌝ }
 {
     if s.used { s.epoch } else { e }
+}
+
+// Slot 0 is freed, unless it is free already; slot `k` was first.
+fn vacated(k: usize, s: Slot) -> Slot
+    ensures { λ r. ⌜ r ≡ vacatedRule k s ⌝ }
+{
+    if s.used {
+        return guards::freed(k, s);
+    }
+    s
 }
 
 // The slot that a step looks at.
@@ -177,7 +187,8 @@ pub fn advance(
         Phase::Finish => {
             slices::erase(c.right, left, right);
             table::zero(log);
-            moved_to(Phase::Gone, phases::with_log(0, 0, c), guards::freed(s), e)
+            let t = vacated(c.free, s);
+            moved_to(Phase::Gone, phases::finished(s, c), t, e)
         }
         Phase::Gone => refused(Answer::Gone, c, s, e),
     }

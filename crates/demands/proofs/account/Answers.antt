@@ -6,7 +6,6 @@ use mathlib.Core.List.{List, [], _∷_, _++_}
 use lib.ListN.{length}
 use lib.Dec.{eqb, ltb, leb}
 use borrow.Author.Tests.{lt-ltb, le-ltb}
-use Rattle.table.specs.Seek.{seek}
 use Rattle.table.specs.Order.{Op}
 use Rattle.table.proofs.Seek.{seek-suc-here}
 use Rattle.table.proofs.Split.{split}
@@ -21,8 +20,7 @@ use Rattle.read.specs.declared.Handle.the-variants.{Drop, Enter, GoOn, Release,
 use Rattle.read.specs.declared.Due.the-variants as due
 use Rattle.read.specs.Machine.{slotCount, guardCount, logRoom, underway, isGone, locks, isDue, isLoad, isOpen, anyOpen, allOpen}
 use Rattle.read.specs.Admission.{column, entry}
-use Rattle.read.specs.Handles.{smallest, handleSigns, Sign}
-use Rattle.read.specs.Calls.{createSigns}
+use Rattle.read.specs.Handles.{smallest, handleSigns, createSigns, Sign}
 use Rattle.read.proofs.Phases.{underway-stays, gone-is, idle-is}
 use Rattle.write.specs.declared.Opening.{Opening}
 use Rattle.write.specs.Call.{Call, Create, On, Append, Open, Step}
@@ -30,7 +28,7 @@ use Rattle.write.specs.declared.Opening.the-variants as opening
 use Rattle.write.specs.Begins.{writerSigns, stepSigns, columnOf, lawfulBatch, crowds}
 use Rattle.write.proofs.Control.{Whole}
 use Rattle.demands.specs.Account.{Account, unswapped, inside}
-use Rattle.demands.specs.Table.{least, whatComesBack, wanted, busy, lockHeld, meetsReader}
+use Rattle.demands.specs.Table.{least, allInUse, whatComesBack, wanted, busy, lockHeld, meetsReader}
 use Rattle.demands.proofs.shown.Invariant.{Shape, outside, announced, inside as entered}
 use Rattle.demands.proofs.shown.Guards.{all-shut}
 use Rattle.demands.proofs.account.Control.{stands-at, SteersOf}
@@ -190,17 +188,17 @@ module _ (a : Account) (c : Control) (h : SteersOf a c) (w : Whole c) where
   wanted-past i le (LookUp j key) = rw (le-ltb i slotCount le)
   wanted-past i le WasDropped = rw (le-ltb i slotCount le)
 
-  -- ---- create, f being the lowest free slot
+  -- ---- create
 
   abbrev none : List Row
   none = row 13 false ∷ row 14 false ∷ row 15 false ∷ []
 
-  pub wanted-create : (f : ℕ) → f ≡ seek (λ i. not (a .readers i .lives)) 0 slotCount → wanted a Create ≡ answerNo (smallest (createSigns c f)) 0
-  wanted-create f q = by-signs a Create (createSigns c f) none rows
+  pub wanted-create : allInUse a ≡ leb slotCount (c .free) → wanted a Create ≡ answerNo (smallest (createSigns c)) 0
+  wanted-create q = by-signs a Create (createSigns c) none rows
     where
-      rows : Agree (whatComesBack a Create) (signRows (createSigns c f) ++ none)
+      rows : Agree (whatComesBack a Create) (signRows (createSigns c) ++ none)
       rows =
-          same (same (same (same (here (lock' ∙ sym (entry-create (c .phase))) (λ _. same (same (same (same (here (ap (leb slotCount) (sym q)) (λ _. same (same (same no-more))))))))))))
+          same (same (same (same (here (lock' ∙ sym (entry-create (c .phase))) (λ _. same (same (same (same (here q (λ _. same (same (same no-more))))))))))))
 
   -- ---- the writer's calls
 

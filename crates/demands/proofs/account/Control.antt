@@ -14,7 +14,7 @@ use Rattle.read.specs.declared.Phase.the-variants.{Idle, Begin, Poll, Copy, Dra
 use Rattle.read.specs.declared.Job.{Job}
 use Rattle.read.specs.declared.Job.the-variants.{Publish, Try, TakeFirst, TakeSecond}
 use Rattle.read.specs.declared.Control.{Control}
-use Rattle.read.specs.Machine.{row, isGone}
+use Rattle.read.specs.Machine.{row, withFree, isGone}
 use Rattle.write.specs.declared.Moved.{Moved}
 use Rattle.write.specs.declared.Opening.{Opening}
 use Rattle.write.specs.declared.Opening.the-variants as opening
@@ -26,7 +26,7 @@ use Rattle.write.proofs.Control.{Whole, Fits, fits}
 use Rattle.demands.specs.Account.{Move, null, Store, unswapped, isOdd, Account, withPlan, advanced, onSwap, asked, begins as openingOf}
 use Rattle.demands.proofs.account.Moves.{makes}
 use Rattle.demands.proofs.Phases.{isTryJob}
-use Rattle.demands.proofs.account.Plan.{moveOf, plan, step-plan, not-made}
+use Rattle.demands.proofs.account.Plan.{moveOf, plan, plan-free, step-plan, not-made}
 use Rattle.demands.proofs.account.Beginnings.{Known, publish-known, try-known, take-known}
 
 -- ---- where the writer stands
@@ -74,6 +74,19 @@ StandsOf a c p = Stands (c .length) (c .swapped) (a .store .inLog) (a .store .sw
 
 pub stands-at : (a : Account) {c : Control} {p : Phase} → SteersOf a c → c .phase ≡ p → StandsOf a c p
 stands-at a {c} h e = subst (StandsOf a c) e (h .stands)
+
+-- another slot that is handed out next
+pub steers-free : (a : Account) {c : Control} (k : ℕ) → SteersOf a c → SteersOf a (withFree k c)
+steers-free a {c} k h =
+    record {
+      first = h .first;
+      second = h .second;
+      side = h .side;
+      null = h .null;
+      tries = h .tries;
+      left = h .left ∙ sym (plan-free k c);
+      stands = h .stands;
+    }
 
 -- ---- where it goes on
 

@@ -19,7 +19,7 @@ use Rattle.read.specs.declared.Handle.the-variants.{LookUp}
 use Rattle.read.specs.declared.Verdict.{Verdict}
 use Rattle.read.specs.declared.Verdict.the-variants.{Admitted, Refused}
 use Rattle.read.specs.Machine.{slotCount, guardCount, noSlot, logWords, fresh, isGone, isOpen, judged}
-use Rattle.read.specs.Handles.{smallest, handleSigns, guardedCopy, copyOf, Sign}
+use Rattle.read.specs.Handles.{smallest, handleSigns, guardedCopy, copyOf, bit, Sign}
 use Rattle.read.specs.Calls.{slotAt, throughRule}
 use Rattle.read.proofs.Verdicts.{mild, refused-mild}
 use Rattle.read.proofs.Phases.{gone-is, idle-or-gone}
@@ -31,7 +31,7 @@ use Rattle.write.specs.Numbers.{isRun}
 use Rattle.write.proofs.Verdicts.{judging}
 use Rattle.write.proofs.NeverBroken.{sound-judged, sound-fresh}
 use Rattle.demands.specs.Account.{Reader, Account, freshAccount, newReader, nobody, advanced, ran, noted}
-use Rattle.demands.specs.Table.{least, busy, wanted}
+use Rattle.demands.specs.Table.{least, busy, wanted, wantedValue, worth}
 use Rattle.demands.specs.Demands.{Unused as UnusedIn, Told, tell, telling, told, Runs, shown, copySeen, HandsOver, Demands, afterSteps as steppedWorld}
 use Rattle.demands.proofs.Others.{on-other, open-other}
 use Rattle.demands.proofs.Passed.{on-passed}
@@ -46,9 +46,10 @@ use Rattle.demands.proofs.Sound.{of-rule, sound-next}
 use Rattle.demands.proofs.shown.Lifts.{gone-shut}
 use Rattle.demands.proofs.account.Control.{stands-at}
 use Rattle.demands.proofs.account.Reader.{Reads}
+use Rattle.demands.proofs.account.Order.{order-fresh}
 use Rattle.demands.proofs.account.Rows.{answerNo, busy-is, row}
 use Rattle.demands.proofs.account.Answers.{wanted-on}
-use Rattle.demands.proofs.account.Calls.{Tie, Right, whole, create-right, handle-right, append-right, open-right}
+use Rattle.demands.proofs.account.Calls.{Tie, Right, whole, solid, create-right, handle-right, append-right, open-right}
 use Rattle.demands.proofs.account.Step.{step-right}
 
 -- ---- one call
@@ -65,9 +66,15 @@ module _ {w : World} {a : Account} (h : Tie w a) where
       on Step q = step-right h
       on Run q = clash refl q
 
+  -- the value of a call that was answered 0
+  pub worth-is : (k : Call) → isRun k ≡ false → answerOf (reply callRule k w) ≡ 0 → valueOf (reply callRule k w) ≡ worth a k
+  unfolding wantedValue
+  worth-is k q z =
+      right k q .value ∙ ap (λ (n : ℕ). elim n [ zero ↦ worth a k | suc m ↦ bit (eqb m 13) ]) (sym (right k q .answer) ∙ z)
+
   pub all-call : (k : Call) → isRun k ≡ false → (let o = reply callRule k w in Tie (next callRule k w) (noted k (answerOf o) (valueOf o) a))
   all-call k q =
-      let r = right k q in record { sound = sound-next k w (h .sound); inv = r .inv; steers = r .steers; reads = r .reads }
+      let r = right k q in record { sound = sound-next k w (h .sound); inv = r .inv; steers = r .steers; reads = r .reads; order = r .order; own = r .own }
 
 -- ---- a run
 
@@ -130,6 +137,8 @@ fresh-all =
         stands = record { log = (refl, refl); last = λ z. clash z refl; over = refl };
       };
       reads = reads;
+      order = order-fresh;
+      own = λ _. refl;
     }
   where
     fresh-other : (i : ℕ) → freshAccount .readers (suc i) ≡ nobody
@@ -200,7 +209,7 @@ module _ {w : World} {a : Account} (h : Tie w a) where
       let signs = handleSigns c (eqb i 0) s (LookUp j 0) in
       let want = wanted-on a c (h .steers) (whole h) i lt s (snapAt (w .state) i) (h .reads i) (h .inv .each i .shape) (LookUp j 0) in
       let v = admitted-zero (smallest signs) signs refl 0 refl (sym want ∙ can-look i j p 0) in
-      through (judged c (w .left) (w .right) (w .log)) (ltb i slotCount) (smallest signs) (sound-judged (h .sound)) (lt-ltb i slotCount lt) v
+      through (judged (w .state) (w .left) (w .right) (w .log)) (ltb i slotCount) (smallest signs) (sound-judged (h .sound)) (lt-ltb i slotCount lt) v
       ∙ h .inv .each i .shows j (open-here i j p)
     where
       through : (v : Verdict) (b : Bool) (u : Verdict) → v ≡ Admitted → b ≡ true → u ≡ Admitted →
@@ -227,7 +236,7 @@ module _ {w : World} {a : Account} (h : Tie w a) where
   unfolding throughRule
   shut-shows i j p =
       let signs = handleSigns c (eqb i 0) (slotAt (w .state) i) (LookUp j 0) in
-      judging (λ (x : List ℕ). x ≡ []) (judged c (w .left) (w .right) (w .log))
+      judging (λ (x : List ℕ). x ≡ []) (judged (w .state) (w .left) (w .right) (w .log))
       (λ _.
       by (λ (x : List ℕ). x ≡ []) (ltb i slotCount)
       (λ _.
@@ -254,7 +263,7 @@ module _ {w : World} {a : Account} (h : Tie w a) where
         other = ap (λ (b : Bool). copyOf (not b) (w .left) (w .right)) side ∙ none;
         log = h .inv .spent (ap isGone e);
         alone = λ i j.
-            split (a .readers i .guards j) (λ o. absurd (gone-shut (h .sound) (h .inv) e i j (h .reads i .guards j ∙ o))) (λ o. o);
+            split (a .readers i .guards j) (λ o. absurd (gone-shut (solid h) (h .inv) e i j (h .reads i .guards j ∙ o))) (λ o. o);
       }
 
   -- where no call is under way the log is as long as the history says, or it is empty after take

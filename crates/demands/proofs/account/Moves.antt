@@ -1,10 +1,13 @@
 -- A step of the writer, by what it changes in the account; and a run of them.
 use Prim.Native.Nat.{ℕ, zero, suc}
 use mathlib.Core.Path.{_≡_, refl}
-use mathlib.Core.Bool.{Bool, true, false}
+use mathlib.Core.Bool.{Bool, true, false, _&&_}
 use mathlib.Core.List.{List, [], _∷_}
 use lib.Dec.{eqb}
-use Rattle.demands.specs.Account.{Move, begin, poll, copy, apply, swap, snap, null, lock, finish, Account, ofReader, ofStore, withEnd, withPlan, dropped, readsEpoch, onCopy, onSwap, deed, advanced, ran}
+use Rattle.table.proofs.Split.{by}
+use Rattle.read.specs.declared.Handle.{Handle}
+use Rattle.read.specs.Admission.{handleNumber}
+use Rattle.demands.specs.Account.{Move, begin, poll, copy, apply, swap, snap, null, lock, finish, Account, ofReader, ofStore, withEnd, withPlan, readsEpoch, onCopy, onSwap, leaves, frees, deed, advanced, ran}
 
 abbrev pub underLock : Move → Bool
 underLock x = deed x .0
@@ -44,7 +47,7 @@ pub record Plain (P : Account → Type 0) (a : Account) : Type 0 where
 pub each-move :
     (P : Account → Type 0) (a : Account) (x : Move) → (isSwap x ≡ false → isSnap x ≡ false → isFinish x ≡ false → Plain P a) →
     (x ≡ swap → P (ofStore onSwap a)) → ((i : ℕ) → x ≡ snap i → P (ofReader i readsEpoch a)) →
-    (x ≡ finish → P (ofReader 0 dropped (withEnd (a .taken) true a))) → P (makes x a)
+    (x ≡ finish → P (makes finish a)) → P (makes x a)
 each-move P a begin h s r f = h refl refl refl .same
 each-move P a (poll i) h s r f = h refl refl refl .same
 each-move P a copy h s r f = h refl refl refl .copied
@@ -57,7 +60,7 @@ each-move P a finish h s r f = f refl
 
 -- what none of them changes
 pub no-move : (P : Account → Type 0) (a : Account) → P a → P (ofStore onCopy a) → P (ofStore onSwap a) → P (withEnd true (a .gone) a) →
-    ((i : ℕ) → P (ofReader i readsEpoch a)) → P (ofReader 0 dropped (withEnd (a .taken) true a)) → (x : Move) → P (makes x a)
+    ((i : ℕ) → P (ofReader i readsEpoch a)) → P (makes finish a) → (x : Move) → P (makes x a)
 no-move P a h c s n r f x = each-move P a x (λ _ _ _. record { same = h; copied = c; nulled = n }) (λ _. s) (λ i _. r i) (λ _. f)
 
 -- what holds of the account whose plan is the rest, with each step made in it
@@ -67,6 +70,11 @@ advanced-rest a x xs = no-move (λ b. b .plan ≡ xs) (withPlan (a .trial) xs a)
 pub advanced-trial : (a : Account) (ms : List Move) → advanced ms a .trial ≡ a .trial
 advanced-trial a [] = refl
 advanced-trial a (x ∷ xs) = no-move (λ b. b .trial ≡ a .trial) (withPlan (a .trial) xs a) refl refl refl refl (λ _. refl) refl x
+
+-- ---- a call on a handle changes a reader, and a drop the order besides
+
+pub leaves-any : (P : Account → Type 0) (h : Handle) (n i : ℕ) (a : Account) → P a → P (frees i a) → P (leaves h n i a)
+leaves-any P h n i a x y = by P (eqb (handleNumber h) 2 && eqb n 0) (λ _. y) (λ _. x)
 
 -- ---- a run is its steps
 

@@ -22,7 +22,7 @@ use Rattle.read.specs.declared.Handle.{Handle}
 use Rattle.read.specs.declared.Handle.the-variants.{Drop, Enter, GoOn, Release, LookUp, WasDropped}
 use Rattle.read.specs.declared.Made.{Made}
 use Rattle.read.specs.Machine.{openOn, withReading, guardCount, shut, isOpen, standsRight, putGuard, firstGuard, anyOpen, allOpen, isDue, isLoad}
-use Rattle.read.specs.Handles.{withDue, freed, guarded, loaded, entered, wentOn, released, copyOf, bit, handled}
+use Rattle.read.specs.Handles.{madeOf, withDue, freed, guarded, loaded, entered, wentOn, released, copyOf, bit, handled}
 use Rattle.read.specs.Admission.{column, entry}
 use Rattle.write.specs.Steps.{holds, seen}
 use Rattle.demands.specs.Account.{delays, Reader, withAt, lowest, inside, reader as readerOf, dropped, turned, opens, closes, readsEpoch, spoke, quits}
@@ -30,6 +30,7 @@ use Rattle.demands.specs.Table.{worthOn}
 use Rattle.demands.proofs.Passed.{OnPassed}
 use Rattle.demands.proofs.shown.Guards.{same-at, other-at, has-room, open-below, all-shut, at-put}
 use Rattle.demands.proofs.shown.Slot.{rowAfter}
+use Rattle.demands.proofs.account.Rows.{isDrop}
 
 pub record Reads (r : Reader) (s : Slot) (e : ℕ) : Type 0 where
   pub lives : s .used ≡ r .lives
@@ -88,8 +89,8 @@ abbrev pub answer15 : Bool → ℕ
 answer15 b = elim b [ true ↦ 15 | false ↦ 0 ]
 
 module _ (os : List Op) {r : Reader} {s : Slot} {e : ℕ} (h : Reads r s e) (four : length (s .guards) ≡ guardCount) where
-  freed-reads : Reads (dropped r) (freed s) e
-  freed-reads = record { lives = refl; due = h .due; guards = h .guards; epoch = h .epoch; snapshot = h .snapshot }
+  pub freed-reads : (k : ℕ) → Reads (dropped r) (freed k s) e
+  freed-reads k = record { lives = refl; due = h .due; guards = h .guards; epoch = h .epoch; snapshot = h .snapshot }
 
   turned-reads : (n : ℕ) (d : Due) (x : ℕ) → x ≡ (r .epoch + n) % 2 ^ 64 → Reads (turned n d r) (withDue x d s) e
   turned-reads n d x q = record { lives = h .lives; due = refl; guards = h .guards; epoch = q; snapshot = h .snapshot }
@@ -131,15 +132,17 @@ module _ (os : List Op) {r : Reader} {s : Slot} {e : ℕ} (h : Reads r s e) (fou
   -- ---- what comes of one that is admitted
 
   -- x: the account's reader then
-  pub record Met (x : Reader) (miss : Bool) (worth : ℕ) (hd : Handle) (m : Made) : Type 0 where
+  pub record Met (c : Control) (x : Reader) (miss : Bool) (worth : ℕ) (hd : Handle) (m : Made) : Type 0 where
     pub reads : Reads x (m .slot) e
     pub answer : number (m .answer) ≡ answer15 miss
     pub value : m .value ≡ elim (number (m .answer)) [ zero ↦ worth | suc n ↦ 0 ]
     pub row : (j : ℕ) → x .guards j ≡ true → rowAfter hd (number (m .answer)) (m .value) os (r .loaded) j ≡ x .loaded j
+    -- only a drop changes the order of the free slots
+    pub stays : isDrop hd ≡ false → (m .slot .used ≡ s .used) × (m .slot .link ≡ s .link) × (m .free ≡ c .free)
 
   module _ (c : Control) where
     enter-met : allOpen (s .guards) ≡ false →
-        (let m = entered c s in Met (spoke Enter (number (m .answer)) (m .value) os r) (misses r Enter (c .null)) (worthOn Enter (c .null) r) Enter m)
+        (let m = entered c s in Met c (spoke Enter (number (m .answer)) (m .value) os r) (misses r Enter (c .null)) (worthOn Enter (c .null) r) Enter m)
     enter-met room = go (inside r) (anyOpen (s .guards)) (c .null) (is-inside h) refl
       where
         made : Bool → Bool → Made
@@ -147,10 +150,10 @@ module _ (os : List Op) {r : Reader} {s : Slot} {e : ℕ} (h : Reads r s e) (fou
             elim u [
               | true ↦
                   elim n [
-                    | true ↦ record { answer = answer.None; value = 0; slot = withDue (s .epoch) (s .due) s }
-                    | false ↦ record { answer = answer.Done; value = firstGuard false (s .guards); slot = guarded (c .right) s }
+                    | true ↦ madeOf c answer.None 0 (withDue (s .epoch) (s .due) s)
+                    | false ↦ madeOf c answer.Done (firstGuard false (s .guards)) (guarded (c .right) s)
                   ]
-              | false ↦ record { answer = answer.Done; value = 0; slot = withDue ((s .epoch + 1) % 2 ^ 64) Load s }
+              | false ↦ madeOf c answer.Done 0 (withDue ((s .epoch + 1) % 2 ^ 64) Load s)
             ]
 
         reader : Bool → ℕ → ℕ → Reader
@@ -161,10 +164,10 @@ module _ (os : List Op) {r : Reader} {s : Slot} {e : ℕ} (h : Reads r s e) (fou
             ]
 
         go : (b u n : Bool) → u ≡ b → anyOpen (s .guards) ≡ u →
-            Met (reader b (number (made u n .answer)) (made u n .value)) (b && n) (elim b [ true ↦ lowest r | false ↦ 0 ]) Enter (made u n)
-        go true true true p q = record { reads = h; answer = refl; value = refl; row = λ j o. refl }
+            Met c (reader b (number (made u n .answer)) (made u n .value)) (b && n) (elim b [ true ↦ lowest r | false ↦ 0 ]) Enter (made u n)
+        go true true true p q = record { reads = h; answer = refl; value = refl; row = λ j o. refl; stays = λ _. (refl, refl, refl) }
         go true true false p q =
-            record { reads = guarded-reads (c .right) room; answer = refl; value = is-lowest h; row = λ j o. refl }
+            record { reads = guarded-reads (c .right) room; answer = refl; value = is-lowest h; row = λ j o. refl; stays = λ _. (refl, refl, refl) }
         go true false n p q = clash p refl
         go false true n p q = clash refl p
         go false false n p q =
@@ -173,6 +176,7 @@ module _ (os : List Op) {r : Reader} {s : Slot} {e : ℕ} (h : Reads r s e) (fou
               answer = refl;
               value = refl;
               row = λ j o. absurd (all-shut (s .guards) q j (h .guards j ∙ o));
+              stays = λ _. (refl, refl, refl);
             }
 
     -- go on, by what is due
@@ -180,18 +184,18 @@ module _ (os : List Op) {r : Reader} {s : Slot} {e : ℕ} (h : Reads r s e) (fou
     back x = elim x [ Nothing ↦ r | Load ↦ turned 0 Restore r | Restore ↦ turned 1 Nothing r ]
 
     go-met : (d : Due) → s .due ≡ d → isDue d ≡ true → (isLoad d ≡ true → c .null ≡ false → allOpen (s .guards) ≡ false) →
-        (let m = wentOn c d s in Met (spoke GoOn (number (m .answer)) (m .value) os r) (c .null || not (isLoad d)) (lowest r) GoOn m)
+        (let m = wentOn c d s in Met c (spoke GoOn (number (m .answer)) (m .value) os r) (c .null || not (isLoad d)) (lowest r) GoOn m)
     go-met Nothing q due room = clash due refl
     go-met Load q due room = go (c .null) refl
       where
         made : Bool → Made
         made n =
             elim n [
-              | true ↦ record { answer = answer.None; value = 0; slot = withDue (s .epoch) Restore s }
-              | false ↦ record { answer = answer.Done; value = firstGuard false (s .guards); slot = guarded (c .right) s }
+              | true ↦ madeOf c answer.None 0 (withDue (s .epoch) Restore s)
+              | false ↦ madeOf c answer.Done (firstGuard false (s .guards)) (guarded (c .right) s)
             ]
 
-        go : (n : Bool) → c .null ≡ n → Met (spoke GoOn (number (made n .answer)) (made n .value) os r) (n || false) (lowest r) GoOn (made n)
+        go : (n : Bool) → c .null ≡ n → Met c (spoke GoOn (number (made n .answer)) (made n .value) os r) (n || false) (lowest r) GoOn (made n)
         go true p =
             record {
               reads = subst (λ (x : Due). Reads (back x) (withDue (s .epoch) Restore s) e)
@@ -200,8 +204,9 @@ module _ (os : List Op) {r : Reader} {s : Slot} {e : ℕ} (h : Reads r s e) (fou
               value = refl;
               row = subst (λ (x : Due). (j : ℕ) → back x .guards j ≡ true →
                   r .loaded j ≡ back x .loaded j) (sym q ∙ h .due) (λ j o. refl);
+              stays = λ _. (refl, refl, refl);
             }
-        go false p = record { reads = guarded-reads (c .right) (room refl p); answer = refl; value = is-lowest h; row = λ j o. refl }
+        go false p = record { reads = guarded-reads (c .right) (room refl p); answer = refl; value = is-lowest h; row = λ j o. refl; stays = λ _. (refl, refl, refl) }
     go-met Restore q due room =
         record {
           reads = subst (λ (x : Due). Reads (back x) (withDue ((s .epoch + 1) % 2 ^ 64) Nothing s) e)
@@ -210,20 +215,22 @@ module _ (os : List Op) {r : Reader} {s : Slot} {e : ℕ} (h : Reads r s e) (fou
           value = refl;
           row = subst (λ (x : Due). (j : ℕ) → back x .guards j ≡ true →
               r .loaded j ≡ back x .loaded j) (sym q ∙ h .due) (λ j o. refl);
+          stays = λ _. (refl, refl, refl);
         }
 
     -- every handle call that is admitted
     pub handled-met :
         (l rr : List ℕ) → ((j : ℕ) → isOpen (s .guards) j ≡ true → copyOf (standsRight (s .guards) j) l rr ≡ after (r .loaded j) empty) →
-        (own : Bool) (hd : Handle) → OnPassed c own s hd →
-        (let m = handled c s hd l rr in Met (spoke hd (number (m .answer)) (m .value) os r) (misses r hd (c .null)) (worthOn hd (c .null) r) hd m)
+        (i : ℕ) (hd : Handle) → OnPassed c (eqb i 0) s hd →
+        (let m = handled c i s hd l rr in Met c (spoke hd (number (m .answer)) (m .value) os r) (misses r hd (c .null)) (worthOn hd (c .null) r) hd m)
     unfolding handled
-    handled-met l rr shows own Drop u = record { reads = freed-reads; answer = refl; value = refl; row = λ j o. refl }
-    handled-met l rr shows own Enter u = enter-met (u .fewer)
-    handled-met l rr shows own GoOn u =
-        subst (λ (d : Due). (let m = wentOn c (s .due) s in Met (spoke GoOn (number (m .answer)) (m .value) os r) (c .null || not (isLoad d)) (lowest r) GoOn m))
-        (h .due) (go-met (s .due) refl (not-false _ (neither (eqb (entry (c .phase) (column GoOn own)) 6) _ (u .timely) .1)) (lacks-none _ _ _ (u .fewer)))
-    handled-met l rr shows own (Release j) u = record { reads = released-reads j (not-false _ (u .guard)); answer = refl; value = refl; row = last-row (inside (closes j r)) }
+    handled-met l rr shows i Drop u =
+        record { reads = freed-reads (c .free); answer = refl; value = refl; row = λ j o. refl; stays = λ n. clash refl n }
+    handled-met l rr shows i Enter u = enter-met (u .fewer)
+    handled-met l rr shows i GoOn u =
+        subst (λ (d : Due). (let m = wentOn c (s .due) s in Met c (spoke GoOn (number (m .answer)) (m .value) os r) (c .null || not (isLoad d)) (lowest r) GoOn m))
+        (h .due) (go-met (s .due) refl (not-false _ (neither (eqb (entry (c .phase) (column GoOn (eqb i 0))) 6) _ (u .timely) .1)) (lacks-none _ _ _ (u .fewer)))
+    handled-met l rr shows i (Release j) u = record { reads = released-reads j (not-false _ (u .guard)); answer = refl; value = refl; row = last-row (inside (closes j r)); stays = λ _. (refl, refl, refl) }
       where
         last : Bool → Reader
         last b = elim b [ true ↦ closes j r | false ↦ turned 1 (r .due) (closes j r) ]
@@ -231,15 +238,16 @@ module _ (os : List Op) {r : Reader} {s : Slot} {e : ℕ} (h : Reads r s e) (fou
         last-row : (b : Bool) (k : ℕ) → last b .guards k ≡ true → r .loaded k ≡ last b .loaded k
         last-row true k o = refl
         last-row false k o = refl
-    handled-met l rr shows own (LookUp j key) u =
+    handled-met l rr shows i (LookUp j key) u =
         let o = not-false _ (u .guard) in
         record {
           reads = h;
           answer = refl;
           row = λ j o. refl;
+          stays = λ _. (refl, refl, refl);
           value = ap (λ (x : List ℕ). getD (lookRule key x) 1 0) (shows j o);
         }
-    handled-met l rr shows own WasDropped u = record { reads = h; answer = refl; value = bit-elim (c .null); row = λ j o. refl }
+    handled-met l rr shows i WasDropped u = record { reads = h; answer = refl; value = bit-elim (c .null); row = λ j o. refl; stays = λ _. (refl, refl, refl) }
       where
         bit-elim : (n : Bool) → bit n ≡ bit n
         bit-elim n = refl

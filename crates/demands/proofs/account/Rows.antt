@@ -102,7 +102,7 @@ pub idle-step : (a : Account) → busy a ≡ false → wanted a Step ≢ 0
 unfolding wanted
 idle-step a = go (a .plan) (a .gone)
   where
-    go : (ms : List Move) (g : Bool) → isBusy ms ≡ false → wanted (account (a .readers) (a .store) ms (a .trial) (a .taken) g) Step ≢ 0
+    go : (ms : List Move) (g : Bool) → isBusy ms ≡ false → wanted (account (a .readers) (a .store) ms (a .trial) (a .taken) g (a .slots)) Step ≢ 0
     go (x ∷ xs) g e = clash refl e
     go [] true e = λ z. omega arith
     go [] false e = λ z. omega arith

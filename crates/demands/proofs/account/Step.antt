@@ -1,5 +1,5 @@
 -- A step answers what the account says, and keeps account and world alike.
-use Prim.Native.Nat.{ℕ, zero, suc, _<_}
+use Prim.Native.Nat.{ℕ, zero, suc, _+_, _<_}
 use mathlib.Core.Path.{_≡_, refl, sym, ap, _∙_, subst, subst₂}
 use mathlib.Core.Bool.{Bool, true, false, not, _&&_}
 use mathlib.Core.List.{List, [], _∷_}
@@ -22,13 +22,14 @@ use Rattle.read.specs.declared.Control.{Control}
 use Rattle.read.specs.declared.State.{State}
 use Rattle.read.specs.declared.Reply.{Reply}
 use Rattle.read.specs.declared.Verdict.the-variants.{Admitted}
-use Rattle.read.specs.Machine.{slotCount, noSlot, underway, place}
+use Rattle.read.specs.Machine.{slotCount, noSlot, underway, isGone, place}
 use Rattle.read.specs.Handles.{smallest, freed, bit}
 use Rattle.read.specs.Calls.{Lent, lent, slotAt}
 use Rattle.read.proofs.Verdicts.{refused-mild}
 use Rattle.write.specs.declared.Moved.{Moved}
 use Rattle.write.specs.Call.{Step}
-use Rattle.write.specs.Steps.{holds, seen, pollMove, lastPollMove, stepAt}
+use Rattle.write.specs.Steps.{holds, seen, vacated, firstThen, swappedOver, snapping, pollMove, lastPollMove, stepAt}
+use Rattle.write.proofs.Cases.{snapping-cases}
 use Rattle.write.specs.Begins.{stepSigns}
 use Rattle.write.specs.Scans.{polls}
 use Rattle.write.specs.Runs.{snapAt, lift, stepOn}
@@ -46,9 +47,10 @@ use Rattle.demands.proofs.shown.Steps.{Next, stepOn-keeps}
 use Rattle.demands.proofs.account.Plan.{moveOf, plan, plan-head, step-plan, not-made}
 use Rattle.demands.proofs.account.Control.{StandsOf, SteersOf, Stands, isLast, step-steers}
 use Rattle.demands.proofs.account.Reader.{Reads, is-delays, seen-reads}
+use Rattle.demands.proofs.account.Order.{Order, OrderOf, order-freed}
 use Rattle.demands.proofs.account.Rows.{answerNo, isBusy, plan-busy}
 use Rattle.demands.proofs.account.Answers.{stops, wanted-step}
-use Rattle.demands.proofs.account.Calls.{move-same, InvOf, ReadsAll, Tie, Right, value-done, slot-reads, same-loaded, refused-right, mild-right, whole, len, early}
+use Rattle.demands.proofs.account.Calls.{move-same, InvOf, ReadsAll, OwnOf, Tie, Right, solid, own-at, order-kept, value-done, slot-reads, same-loaded, refused-right, mild-right, whole, len, early}
 use Rattle.demands.proofs.Phases.{isTryJob}
 
 -- ---- the polled slot
@@ -134,13 +136,17 @@ module _ {w : World} {a : Account} (tie : Tie w a) where
 
   -- slot 0 is freed
   reads-freed : (i : ℕ) →
-      Reads (withAt 0 (dropped (a .readers 0)) (a .readers) i) (getD (set (st .slots) 0 (freed (slotAt st 0))) i noSlot)
+      Reads (withAt 0 (dropped (a .readers 0)) (a .readers) i) (getD (set (st .slots) 0 (vacated (c .free) (slotAt st 0))) i noSlot)
       (getD (set (st .snapshots) 0 (snapAt st 0)) i 0)
   reads-freed =
-      subst (λ (es : List ℕ). (i : ℕ) → Reads (withAt 0 (dropped (a .readers 0)) (a .readers) i) (getD (set (st .slots) 0 (freed (slotAt st 0))) i noSlot) (getD es i 0))
+      let s = vacated (c .free) (slotAt st 0) in
+      let h = tie .reads 0 in
+      subst (λ (es : List ℕ). (i : ℕ) → Reads (withAt 0 (dropped (a .readers 0)) (a .readers) i) (getD (set (st .slots) 0 s) i noSlot) (getD es i 0))
       (sym (set-getD (st .snapshots) 0 0))
-      (slot-reads st a (len tie) (tie .reads) 0 some-slot (dropped (a .readers 0)) (freed (slotAt st 0))
-      (let h = tie .reads 0 in record { lives = refl; due = h .due; guards = h .guards; epoch = h .epoch; snapshot = h .snapshot }))
+      (slot-reads st a (len tie) (tie .reads) 0 some-slot (dropped (a .readers 0)) s
+      (by (λ (t : Slot). Reads (dropped (a .readers 0)) t (snapAt st 0)) (slotAt st 0 .used)
+      (λ u. record { lives = refl; due = h .due; guards = h .guards; epoch = h .epoch; snapshot = h .snapshot })
+      (λ u. record { lives = u; due = h .due; guards = h .guards; epoch = h .epoch; snapshot = h .snapshot })))
 
   moves-poll : (held : Bool) (k : ℕ) → number (pollMove held k c (slot (Poll k)) (snapOf (Poll k)) .answer) ≡ 0 → Moves (Poll k) (pollMove held k c (slot (Poll k)) (snapOf (Poll k)))
   moves-poll true k z = absurd (not-made (c .job) c (slot (Poll k)) (snapOf (Poll k)) z)
@@ -168,6 +174,67 @@ module _ {w : World} {a : Account} (tie : Tie w a) where
   moves-at Finish f z = λ ms. reads-freed
   moves-at Gone f z = absurd (omega arith)
 
+  -- ---- the order, by the phase
+
+  abbrev Orders : Phase → Moved → Type 0
+  Orders p m = (ms : List Move) →
+      (let o = makes (moveOf p) (withPlan (a .trial) ms a) .slots in Order (o .freed) (o .used) (m .control .free) (set (st .slots) (place p) (m .slot)))
+
+  -- what is put back as it was
+  order-back : (k : ℕ) → Order (a .slots .freed) (a .slots .used) (c .free) (set (st .slots) k (slotAt st k))
+  order-back k = order-kept tie k (slotAt st k) refl refl
+
+  orders-poll : (held : Bool) (k : ℕ) → number (pollMove held k c (slot (Poll k)) (snapOf (Poll k)) .answer) ≡ 0 → Orders (Poll k) (pollMove held k c (slot (Poll k)) (snapOf (Poll k)))
+  orders-poll true k z = absurd (not-made (c .job) c (slot (Poll k)) (snapOf (Poll k)) z)
+  orders-poll false k z = λ ms. order-back k
+
+  orders-lastPoll : (held : Bool) (k : ℕ) → number (lastPollMove held k c (slot (LastPoll k)) (snapOf (LastPoll k)) .answer) ≡ 0 →
+      Orders (LastPoll k) (lastPollMove held k c (slot (LastPoll k)) (snapOf (LastPoll k)))
+  orders-lastPoll true k z = absurd (omega arith)
+  orders-lastPoll false k z = λ ms. order-back k
+
+  -- the snapshots, and what follows
+  orders-snapping : (d : Control) (n k : ℕ) → d .free ≡ c .free → Order (a .slots .freed) (a .slots .used) (snapping d n .free) (set (st .slots) k (slotAt st k))
+  orders-snapping d n k e =
+      let back = subst (λ (x : ℕ). Order (a .slots .freed) (a .slots .used) x (set (st .slots) k (slotAt st k))) (sym e) (order-back k) in
+      snapping-cases (λ x. Order (a .slots .freed) (a .slots .used) (x .free) (set (st .slots) k (slotAt st k))) d n (λ _. back) (λ _. back)
+
+  -- take's finish frees slot 0, which is in use
+  orders-finish : slotAt st 0 .used ≡ true →
+      Order (0 ∷ a .slots .freed) (a .slots .used) (firstThen (c .free) (slotAt st 0)) (set (st .slots) 0 (vacated (c .free) (slotAt st 0)))
+  orders-finish u =
+      let s = slotAt st 0 in
+      subst
+      (λ (b : Bool). Order (0 ∷ a .slots .freed) (a .slots .used) (elim b [ true ↦ 0 | false ↦ c .free ])
+      (set (st .slots) 0 (elim b [ true ↦ freed (c .free) s | false ↦ s ])))
+      (sym u) (order-freed (tie .order) 0 s (omega (arith, len tie, some-slot)) u)
+
+  orders-at : (p : Phase) → (isGone p ≡ false → slotAt st 0 .used ≡ true) → number (after p .answer) ≡ 0 → Orders p (after p)
+  unfolding stepAt
+  orders-at Idle u z = absurd (omega arith)
+  orders-at Begin u z = λ ms. order-back 0
+  orders-at (Poll k) u z = orders-poll (holds (slot (Poll k)) (snapOf (Poll k))) k z
+  orders-at Copy u z = λ ms. order-back 0
+  orders-at Drain u z = λ ms. order-back 0
+  orders-at (Keep k) u z = λ ms. order-back 0
+  orders-at Swap u z = λ ms. orders-snapping (swappedOver c) 0 0 refl
+  orders-at (Snap k) u z = λ ms. orders-snapping c (k + 1) k refl
+  orders-at Null u z = λ ms. order-back 0
+  orders-at Lock u z = λ ms. order-back 0
+  orders-at (LastSnap k) u z = λ ms. order-back k
+  orders-at (LastPoll k) u z = orders-lastPoll (holds (slot (LastPoll k)) (snapOf (LastPoll k))) k z
+  orders-at Finish u z = λ ms. orders-finish (u refl)
+  orders-at Gone u z = absurd (omega arith)
+
+  -- the writer's own handle lives until then
+  owns : (x : Move) (ms : List Move) → OwnOf (makes x (withPlan (a .trial) ms a))
+  owns x ms =
+      let b = withPlan (a .trial) ms a in
+      each-move OwnOf b x (λ _ _ _. record { same = tie .own; copied = tie .own; nulled = tie .own }) (λ _. tie .own)
+      (λ i _. own-at tie i (readsEpoch (a .readers i)) (λ z g.
+      by (λ (r : Reader). r .lives ≡ true) (a .readers i .lives) (λ e. e) (λ e. subst (λ (k : ℕ). a .readers k .lives ≡ true) (sym z) (tie .own g))))
+      (λ _ g. clash refl g)
+
   -- ---- a made step
 
   abbrev onStep : Lent Reply
@@ -176,9 +243,9 @@ module _ {w : World} {a : Account} (tie : Tie w a) where
   abbrev c' : Control
   c' = after (c .phase) .control
 
-  on-keeps : Next (tie .sound) (tie .inv) (c .phase) onStep
+  on-keeps : Next (solid tie) (tie .inv) (c .phase) onStep
   unfolding stepOn
-  on-keeps = stepOn-keeps (tie .sound) (tie .inv)
+  on-keeps = stepOn-keeps (solid tie) (tie .inv)
 
   module _ (u : underway (c .phase) ≡ true) where
     made-right : number (after (c .phase) .answer) ≡ 0 → wanted a Step ≡ 0 → Right a Step onStep
@@ -186,6 +253,7 @@ module _ {w : World} {a : Account} (tie : Tie w a) where
         let p = c .phase in
         let q = tie .steers .left ∙ step-plan c (slot p) (snapOf p) (whole tie) (w .left) (w .right) (w .log) z in
         let mv = moves-at p (fits (whole tie)) z in
+        let od = orders-at p (λ n. tie .reads 0 .lives ∙ tie .own (sym (tie .steers .stands .over) ∙ n)) z in
         let wh = whole-step c (whole tie) (slot p) (snapOf p) (w .left) (w .right) (w .log) in
         let v = after p .value in
         record {
@@ -201,6 +269,9 @@ module _ {w : World} {a : Account} (tie : Tie w a) where
               (step-steers a c (tie .steers) (whole tie) (early tie) (slot p) (snapOf p) (w .left) (w .right) (w .log) z);
           reads = subst (λ (n : ℕ). ReadsAll (noted Step n v a) (onStep .made .state)) (sym z)
               (subst (λ (ms : List Move). ReadsAll (advanced ms a) (onStep .made .state)) (sym q) (mv (plan c')));
+          order = subst (λ (n : ℕ). OrderOf (noted Step n v a) (onStep .made .state)) (sym z)
+              (subst (λ (ms : List Move). OrderOf (advanced ms a) (onStep .made .state)) (sym q) (od (plan c')));
+          own = subst (λ (n : ℕ). OwnOf (noted Step n v a)) (sym z) (subst (λ (ms : List Move). OwnOf (advanced ms a)) (sym q) (owns (moveOf p) (plan c')));
         }
 
     -- ---- what it answers
@@ -271,6 +342,8 @@ module _ {w : World} {a : Account} (tie : Tie w a) where
           steers = record { first = h .first; second = h .second; side = h .side; null = h .null; tries = h .tries; left = refl; stands = x };
           inv = inv;
           reads = reads-back k;
+          order = order-back k;
+          own = tie .own;
         }
 
     advanced-right : smallest (stepSigns 12 c) ≡ Admitted → (m : Lent Moved) → m ≡ stepAt (c .phase) c (slot (c .phase)) (snapOf (c .phase)) (w .left) (w .right) (w .log) →
@@ -286,7 +359,7 @@ module _ {w : World} {a : Account} (tie : Tie w a) where
         declined-right (sym (answer-is v) ∙ z)
         (idle-stands (c .phase) (c .job) (holds (slot (c .phase)) (snapOf (c .phase)))
         (ap number (sym (step-answer c (slot (c .phase)) (snapOf (c .phase)) (w .left) (w .right) (w .log) (c .phase))) ∙ z) (tie .steers .stands))
-        (place (c .phase)) (subst (λ (x : Lent Moved). Next (tie .sound) (tie .inv) (c .phase) (lift (place (c .phase)) st x)) (sym e) on-keeps)
+        (place (c .phase)) (subst (λ (x : Lent Moved). Next (solid tie) (tie .inv) (c .phase) (lift (place (c .phase)) st x)) (sym e) on-keeps)
 
   pub step-right : Right a Step (reply callOn Step w)
   unfolding callOn stepOn

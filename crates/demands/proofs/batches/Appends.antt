@@ -17,11 +17,12 @@ use Rattle.read.specs.declared.Slot.{Slot}
 use Rattle.read.specs.declared.Control.{Control}
 use Rattle.read.specs.declared.State.{State}
 use Rattle.read.specs.declared.Verdict.the-variants.{Admitted}
-use Rattle.read.specs.Machine.{logRoom, noSlot, judged, withReading}
+use Rattle.read.specs.Machine.{logRoom, noSlot, judged, orderly, withReading}
 use Rattle.read.specs.Handles.{Sign, smallest, withDue}
 use Rattle.read.specs.Calls.{Lent, slotAt}
 use Rattle.read.specs.declared.Reply.{Reply}
 use Rattle.read.proofs.Verdicts.{silent, refused-mild}
+use Rattle.read.proofs.Orderly.{orderly-stored}
 use Rattle.write.specs.declared.Moved.{Moved}
 use Rattle.write.specs.Call.{Append}
 use Rattle.write.specs.Begins.{batchRoom, allLawful, lawfulBatch, crowds, writerSigns, operatedAll, logged, loggedAll, appended, appendOn}
@@ -32,7 +33,7 @@ use Rattle.write.specs.World.{World, reply, worldOf, answerOf, valueOf, Played,
 use Rattle.write.proofs.Verdicts.{judging}
 use Rattle.write.proofs.Control.{whole-append}
 use Rattle.write.proofs.Words.{words-append}
-use Rattle.write.proofs.Judged.{Good, judged-good, good-judged}
+use Rattle.write.proofs.Judged.{Good, judged-good, judged-orderly, good-judged}
 use Rattle.demands.specs.Batches.{ones, further, AsAppends}
 use Rattle.demands.proofs.refusal.Judged.{Grave, judged-grave}
 
@@ -43,6 +44,7 @@ signsOf os c s = writerSigns 7 (not (lawfulBatch os)) (crowds (length os) c) c s
 
 record Admits (os : List Op) (w : World) : Type 0 where
   good : Good (w .state .control) (w .left) (w .right) (w .log)
+  ordered : orderly (w .state) ≡ true
   signs : smallest (signsOf os (w .state .control) (slotAt (w .state) 0)) ≡ Admitted
 
 made-admits : (os : List Op) (w : World) → answerOf (reply callRule (Append os) w) ≡ 0 → Admits os w
@@ -51,11 +53,11 @@ made-admits os w =
     let st = w .state in
     let c = st .control in
     let signs = signsOf os c (slotAt st 0) in
-    judging (λ o. answerOf o ≡ 0 → Admits os w) (judged c (w .left) (w .right) (w .log))
+    judging (λ o. answerOf o ≡ 0 → Admits os w) (judged st (w .left) (w .right) (w .log))
     (λ v. judging (λ m. answerOf (lift 0 st m) ≡ 0 → Admits os w) (smallest signs)
-    (λ u z. record { good = judged-good c (w .left) (w .right) (w .log) v; signs = u })
+    (λ u z. record { good = judged-good st (w .left) (w .right) (w .log) v; ordered = judged-orderly st (w .left) (w .right) (w .log) v; signs = u })
     (λ a u z. absurd (omega (arith, refused-mild signs refl a u, z))))
-    (λ a v z. absurd (let y = subst Grave v (judged-grave c (w .left) (w .right) (w .log)) in omega (arith, y, z)))
+    (λ a v z. absurd (let y = subst Grave v (judged-grave st (w .left) (w .right) (w .log)) in omega (arith, y, z)))
 
 -- what comes of it, by whether it is applied at once
 abbrev taken : Bool → List Op → World → Lent Reply
@@ -72,7 +74,7 @@ module _ {os : List Op} {w : World} (h : Admits os w) (first : Bool) (q : w .sta
 
   replies-so : reply callRule (Append os) w ≡ taken first os w
   unfolding callRule callOn
-  replies-so = rw (good-judged (w .state .control) (w .left) (w .right) (w .log) (h .good), callRule) (ap (lift 0 (w .state)) appends-so)
+  replies-so = rw (good-judged (w .state) (w .left) (w .right) (w .log) (h .good) (h .ordered), callRule) (ap (lift 0 (w .state)) appends-so)
 
   stays-good : let x = leaves first os w in Good (x .state .control) (x .left) (x .right) (x .log)
   stays-good =
@@ -124,14 +126,19 @@ module _ (o : Op) (os : List Op) (w : World) (h : Admits (o ∷ os) w) where
       (λ i. smallest (writerSigns 7 (not ((l ∙ sym lawful-all) i)) (full i) c (withReading 0 (e .1 i) (e .0 i) t))) ∙ h .signs
 
   admits-first : Admits (o ∷ []) w
-  admits-first = record { good = h .good; signs = admits-some (o ∷ []) (λ i. lawful-each .1 i && true) (c .length) (omega arith) s (refl, refl) }
+  admits-first = record { good = h .good; ordered = h .ordered; signs = admits-some (o ∷ []) (λ i. lawful-each .1 i && true) (c .length) (omega arith) s (refl, refl) }
 
   admits-rest : (first : Bool) → c .first ≡ first → Admits os (leaves first (o ∷ []) w)
-  admits-rest first q = record { good = stays-good admits-first first q; signs = signs first }
+  admits-rest first q = record { good = stays-good admits-first first q; ordered = in-order first; signs = signs first }
     where
       behind : (n e : ℕ) → n + length os ≤ c .length + suc (length os) →
           smallest (signsOf os (withLog n (c .swapped) c) (getD (set (st .slots) 0 (withDue e (s .due) s)) 0 noSlot)) ≡ Admitted
       behind n e le = admits-some os (λ i. lawful-each .0 i && lawful-each .2 i) n le (getD (set (st .slots) 0 (withDue e (s .due) s)) 0 noSlot) (read-again (st .slots) e)
+
+      -- slot 0 is in use as it was
+      in-order : (first : Bool) → orderly (leaves first (o ∷ []) w .state) ≡ true
+      in-order true = orderly-stored st 0 _ c _ refl refl refl ∙ h .ordered
+      in-order false = orderly-stored st 0 _ _ _ refl refl refl ∙ h .ordered
 
       signs : (first : Bool) → let x = leaves first (o ∷ []) w in smallest (signsOf os (x .state .control) (slotAt (x .state) 0)) ≡ Admitted
       signs true = behind (c .length) ((s .epoch + 2) % 2 ^ 64) (omega arith)

@@ -1,14 +1,15 @@
 -- No rule looks at slot 0's epoch and its snapshot but a poll of that slot: where it is not held, a call is answered as if they were put
 -- aside, and leaves the same but for them.
 use Prim.Native.Nat.{ℕ, zero, suc}
-use mathlib.Core.Path.{_≡_, refl, ap, _∙_}
-use mathlib.Core.Bool.{Bool, true, false, not, and-false}
-use mathlib.Core.List.{List, _∷_}
-use lib.ListN.{length, getD}
-use lib.Dec.{ltb}
-use Rattle.table.specs.Seek.{seek}
+use mathlib.Core.Path.{_≡_, refl, sym, ap}
+use mathlib.Core.Bool.{Bool, true, false, not, _&&_, and-false}
+use mathlib.Core.List.{List, [], _∷_}
+use lib.ListN.{length}
+use lib.Dec.{ltb, leb}
+use Rattle.table.specs.Copy.{zeros}
 use Rattle.table.specs.Order.{Op}
 use Rattle.table.specs.declared.Answer.{Answer}
+use Rattle.table.specs.declared.Answer.the-variants as answer
 use Rattle.table.proofs.Split.{by}
 use Rattle.read.specs.declared.Due.{Due}
 use Rattle.read.specs.declared.Due.the-variants.{Nothing, Load, Restore}
@@ -23,14 +24,15 @@ use Rattle.read.specs.declared.Made.{Made}
 use Rattle.read.specs.declared.Reply.{Reply}
 use Rattle.read.specs.declared.Verdict.{Verdict}
 use Rattle.read.specs.declared.Verdict.the-variants.{Admitted, Refused}
-use Rattle.read.specs.Machine.{slotCount, noSlot, underway, place, anyOpen}
-use Rattle.read.specs.Handles.{smallest, handleSigns, withDue, loaded, wentOn, handled, handleOn}
-use Rattle.read.specs.Calls.{Lent, lent, slotAt, withSlot, createSigns, createReply, firstFree}
+use Rattle.read.specs.Machine.{slotCount, firstUnlawful, glanced, judged, underway, place, anyOpen}
+use Rattle.read.specs.Handles.{smallest, handleSigns, createSigns, withDue, freed, loaded, wentOn, handled, handleOn, createOn}
+use Rattle.read.specs.Calls.{Lent, lent, slotAt, replyOf, throughGuard, throughRule}
+use Rattle.read.proofs.Orderly.{orderly-stored}
 use Rattle.write.specs.declared.Moved.{Moved}
 use Rattle.write.specs.declared.Opening.{Opening}
 use Rattle.write.specs.declared.Opening.the-variants as opening
 use Rattle.write.specs.Call.{Create, On, Append, Open}
-use Rattle.write.specs.Steps.{holds, seen, stepAt}
+use Rattle.write.specs.Steps.{holds, seen, vacated, finished, at, ofLeft, ofRight, moved, stepAt}
 use Rattle.write.specs.Begins.{lawfulBatch, crowds, writerSigns, columnOf, appendOn, openOn, opened}
 use Rattle.write.specs.Runs.{snapAt, lift}
 use Rattle.write.specs.Machine.{callOn}
@@ -55,7 +57,7 @@ abbrev pub hide : Slot → Slot
 hide s = withDue 0 (s .due) s
 
 abbrev hideMade : Made → Made
-hideMade m = record { answer = m .answer; value = m .value; slot = hide (m .slot) }
+hideMade m = record { answer = m .answer; value = m .value; slot = hide (m .slot); free = m .free }
 
 abbrev pub hideIn : Lent Reply → Lent Reply
 hideIn o =
@@ -68,7 +70,7 @@ module _ (c : Control) (s : Slot) (l r : List ℕ) where
   loaded-same : (d : Due) → hideMade (loaded c d s) ≡ hideMade (loaded c d (hide s))
   loaded-same d = test-same hideMade (c .null) refl refl
 
-  handled-same : (h : Handle) → hideMade (handled c s h l r) ≡ hideMade (handled c (hide s) h l r)
+  handled-same : (h : Handle) → hideMade (handled c 0 s h l r) ≡ hideMade (handled c 0 (hide s) h l r)
   unfolding handled
   handled-same Drop = refl
   handled-same Enter = test-same hideMade (anyOpen (s .guards)) (loaded-same (s .due)) refl
@@ -82,7 +84,7 @@ module _ (c : Control) (s : Slot) (l r : List ℕ) where
   handled-same (LookUp j key) = refl
   handled-same WasDropped = refl
 
-  handle-same : (h : Handle) → hideMade (handleOn c true s h l r) ≡ hideMade (handleOn c true (hide s) h l r)
+  handle-same : (h : Handle) → hideMade (handleOn c 0 s h l r) ≡ hideMade (handleOn c 0 (hide s) h l r)
   unfolding handleOn
   handle-same h = verdict-same hideMade (smallest (handleSigns c true s h)) (handled-same h) (λ a. refl)
 
@@ -98,23 +100,19 @@ module _ (c : Control) (s : Slot) (ss : List Slot) (e : ℕ) (es l r g : List �
   abbrev bare : State
   bare = state c (hide s) ss 0 es
 
-  new-same : (i : ℕ) → hideIn (lent (createReply i full) l r g) ≡ hideIn (lent (createReply i bare) l r g)
-  new-same zero = verdict-same (λ (o : Reply). hideIn (lent o l r g)) (smallest (createSigns c 0)) refl (λ a. refl)
-  new-same (suc i) = verdict-same (λ (o : Reply). hideIn (lent o l r g)) (smallest (createSigns c (suc i))) refl (λ a. refl)
-
   pub create-same : hideIn (callOn Create full l r g) ≡ hideIn (callOn Create bare l r g)
-  unfolding callOn
-  create-same = new-same (firstFree (s ∷ ss)) ∙ (λ i. hideIn (lent (createReply (seek (λ k. not (used k i)) 0 slotCount) bare) l r g))
+  unfolding callOn createOn
+  create-same = go (c .free)
     where
-      used : (k : ℕ) → getD (s ∷ ss) k noSlot .used ≡ getD (hide s ∷ ss) k noSlot .used
-      used zero = refl
-      used (suc k) = refl
+      go : (i : ℕ) → hideIn (lent (replyOf i (createOn c (slotAt full i)) full) l r g) ≡ hideIn (lent (replyOf i (createOn c (slotAt bare i)) bare) l r g)
+      go zero = verdict-same (λ (m : Made). hideIn (lent (replyOf 0 m full) l r g)) (smallest (createSigns c)) refl (λ a. refl)
+      go (suc i) = refl
 
   pub on-same : (i : ℕ) (h : Handle) → hideIn (callOn (On i h) full l r g) ≡ hideIn (callOn (On i h) bare l r g)
   unfolding callOn
   on-same zero h =
       test-same (λ (o : Reply). hideIn (lent o l r g)) (ltb 0 slotCount)
-      (ap (λ (m : Made). hideIn (lent (record { answer = m .answer; value = m .value; state = withSlot 0 (m .slot) full }) l r g)) (handle-same c s l r h)) refl
+      (ap (λ (m : Made). hideIn (lent (replyOf 0 m full) l r g)) (handle-same c s l r h)) refl
   on-same (suc i) h = test-same (λ (o : Reply). hideIn (lent o l r g)) (ltb (suc i) slotCount) refl refl
 
   pub append-same : (os : List Op) → hideIn (callOn (Append os) full l r g) ≡ hideIn (callOn (Append os) bare l r g)
@@ -134,10 +132,37 @@ module _ (c : Control) (s : Slot) (ss : List Slot) (e : ℕ) (es l r g : List �
       begins opening.Flush = test-same (λ (m : Moved). hideIn (lift 0 full (lent m l r g))) (ltb (c .swapped) (c .length)) refl refl
       begins opening.Take = refl
 
+  -- ---- what a guard shows
+
+  -- the order of the free slots goes by use and links
+  judged-same : judged full l r g ≡ judged bare l r g
+  unfolding judged
+  judged-same =
+      let n = c .length in
+      ap
+      (λ (b : Bool).
+      elim (glanced c l r g) [
+        | Admitted ↦ elim (leb n (firstUnlawful n g) && b) [ true ↦ Admitted | false ↦ Refused answer.Broken ]
+        | Refused a ↦ Refused a
+      ])
+      (sym (orderly-stored full 0 (hide s) c (0 ∷ es) refl refl refl))
+
+  pub shown-same : (i j : ℕ) → throughRule i j l r g full ≡ throughRule i j l r g bare
+  unfolding throughRule
+  shown-same zero j = ap (λ (v : Verdict). elim v [ Admitted ↦ throughGuard 0 j l r full | Refused a ↦ [] ]) judged-same
+  shown-same (suc i) j = ap (λ (v : Verdict). elim v [ Admitted ↦ throughGuard (suc i) j l r full | Refused a ↦ [] ]) judged-same
+
   -- ---- a step of the writer changes no epoch, so they stay aside
 
   none-seen : seen (hide s) 0 ≡ 0
   none-seen = by (λ (n : ℕ). n ≡ 0) (s .used) (λ _. refl) (λ _. refl)
+
+  vacated-same : (k : ℕ) → vacated k (hide s) ≡ hide (vacated k s)
+  vacated-same k = go (s .used)
+    where
+      go : (b : Bool) → elim b [ true ↦ freed k (hide s) | false ↦ hide s ] ≡ hide (elim b [ true ↦ freed k s | false ↦ s ])
+      go true = refl
+      go false = refl
 
   pub free-same : (p : Phase) → (underway p ≡ true → holds s e ≡ false) → let i = place p in
       lift i bare (stepAt p c (slotAt bare i) (snapAt bare i) l r g) ≡ hideIn (lift i full (stepAt p c (slotAt full i) (snapAt full i) l r g))
@@ -158,5 +183,7 @@ module _ (c : Control) (s : Slot) (ss : List Slot) (e : ℕ) (es l r g : List �
   free-same (LastSnap (suc k)) f = refl
   free-same (LastPoll zero) f = simp (and-false, f refl)
   free-same (LastPoll (suc k)) f = refl
-  free-same Finish f = refl
+  free-same Finish f =
+      ap (λ (t : Slot). lift 0 bare (lent (moved (at Gone (finished s c)) t 0) (ofLeft (c .right) zeros l) (ofRight (c .right) zeros r) (zeros g)))
+      (vacated-same (c .free))
   free-same Gone f = refl

@@ -17,7 +17,7 @@ use Rattle.read.specs.declared.State.{State}
 use Rattle.read.specs.declared.Reply.{Reply}
 use Rattle.read.specs.Machine.{slotCount, underway}
 use Rattle.read.specs.Handles.{smallest}
-use Rattle.read.specs.Calls.{Lent, slotAt, throughRule}
+use Rattle.read.specs.Calls.{Lent, slotAt}
 use Rattle.write.specs.Call.{Call, Create, On, Append, Open, Step, Run}
 use Rattle.write.specs.Steps.{holds}
 use Rattle.write.specs.Begins.{stepSigns}
@@ -37,7 +37,7 @@ use Rattle.demands.proofs.account.Calls.{Tie}
 use Rattle.demands.proofs.account.Demands.{all-tell, all-told}
 use Rattle.demands.proofs.delay.Admitted.{on-step, step-on}
 use Rattle.demands.proofs.batches.Appends.{as-appends}
-use Rattle.demands.proofs.batches.Aside.{hide, hideIn, state, create-same, on-same, append-same, open-same, free-same}
+use Rattle.demands.proofs.batches.Aside.{hide, hideIn, state, create-same, on-same, append-same, open-same, shown-same, free-same}
 
 -- ---- worlds that a history reaches
 
@@ -158,9 +158,7 @@ calls-alike (k ∷ js) h g e =
     (λ i. answerOf (o i) ∷ valueOf (o i) ∷ rest .0 i, rest .1)
 
 shown-aside : (i j : ℕ) (w : World) → Reached w → shown i j w ≡ shown i j (aside w)
-unfolding throughRule
-shown-aside zero j = with-own (λ x. shown 0 j x ≡ shown 0 j (aside x)) (λ c s ss e es l r g. refl)
-shown-aside (suc i) j = with-own (λ x. shown (suc i) j x ≡ shown (suc i) j (aside x)) (λ c s ss e es l r g. refl)
+shown-aside i j = with-own (λ x. shown i j x ≡ shown i j (aside x)) (λ c s ss e es l r g. shown-same c s ss e es l r g i j)
 
 alike-from : {w x : World} → Reached w → Reached x → aside w ≡ aside x → AlikeFrom callRule w x
 alike-from h g e =

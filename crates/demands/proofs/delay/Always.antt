@@ -13,9 +13,10 @@ use Rattle.read.specs.declared.Handle.{Handle}
 use Rattle.read.specs.declared.Handle.the-variants.{GoOn, Release}
 use Rattle.write.specs.Call.{On}
 use Rattle.write.specs.World.{Machine, reply, answerOf, valueOf}
-use Rattle.demands.specs.Account.{delays, Reader, isOdd, inside, turned, closes, spoke}
+use Rattle.demands.specs.Account.{delays, Reader, Account, withAt, isOdd, inside, turned, closes, spoke}
 use Rattle.demands.specs.Follows.{readerAfter, Leaves, MovedOn, Always}
 use Rattle.demands.specs.Demands.{Told, tell, told}
+use Rattle.demands.proofs.account.Moves.{leaves-any}
 use Rattle.demands.proofs.delay.Kept.{owned-behind, none-logged, none-met}
 use Rattle.demands.proofs.delay.Counts.{first-steps, second-steps, plan-steps}
 use Rattle.demands.proofs.shown.Guards.{same-at}
@@ -58,7 +59,9 @@ module _ (m : Machine) (t : Told) (i : ℕ) (h : delays (t .account .readers i) 
   unfolding tell
   after-is x n e =
       let o = reply m (On i x) (t .world) in
-      same-at i (spoken x (answerOf o) (valueOf o)) (t .account .readers) ∙ ap (λ (k : ℕ). spoken x k (valueOf o)) e
+      let s = spoken x (answerOf o) (valueOf o) in
+      let q : withAt i s (t .account .readers) i ≡ s = same-at i s (t .account .readers) in
+      leaves-any (λ (b : Account). b .readers i ≡ s) x (answerOf o) i _ q q ∙ ap (λ (k : ℕ). spoken x k (valueOf o)) e
 
   went : Due → Reader
   went d = elim d [ Nothing ↦ r | Load ↦ turned 0 Restore r | Restore ↦ turned 1 Nothing r ]

@@ -25,14 +25,14 @@ use Rattle.write.specs.declared.Opening.the-variants as opening
 use Rattle.write.specs.Numbers.{is, among, isStep, isRun, isTry, isTake}
 use Rattle.write.specs.Machine.{callRule}
 use Rattle.write.specs.World.{World, reply, next, answerOf, valueOf}
-use Rattle.demands.specs.Account.{Account, Store, Reader, ofReader, newReader, spoke, Move, begin, poll, copy, apply, swap, snap, each, provided, publishing, publishPlan, lastPlan, planOf, unswapped, unpublished, withPlan, advanced, ran, ifDeclined, asked, appends, begins as openingBy, ifDone, noted}
+use Rattle.demands.specs.Account.{Account, Store, Reader, Slots, withSlots, handsOut, ofReader, newReader, spoke, Move, begin, poll, copy, apply, swap, snap, each, provided, publishing, publishPlan, lastPlan, planOf, unswapped, unpublished, withPlan, advanced, ran, ifDeclined, asked, appends, begins as openingBy, ifDone, noted}
 use Rattle.demands.specs.Table.{busy, wanted}
 use Rattle.demands.specs.Demands.{tell, told, afterSteps as steppedWorld}
 use Rattle.demands.specs.Follows.{stepsOf, counted, Course, onward, follow, EndsAt, Follows}
 use Rattle.demands.proofs.Others.{on-other, open-other}
 use Rattle.demands.proofs.Sides.{readCopy, writeCopy}
 use Rattle.demands.proofs.shown.Invariant.{Stage, early, late, opsFrom, opsOf}
-use Rattle.demands.proofs.account.Moves.{isSwap, isFinish, each-move, advanced-rest, advanced-trial, ran-keeps}
+use Rattle.demands.proofs.account.Moves.{isSwap, isFinish, each-move, advanced-rest, advanced-trial, leaves-any, ran-keeps}
 use Rattle.demands.proofs.account.Control.{StandsOf, stands-at}
 use Rattle.demands.proofs.account.Rows.{isBusy, idle-step, declined-tries, writes-idle, busy-is}
 use Rattle.demands.proofs.account.Calls.{Tie, whole}
@@ -173,6 +173,9 @@ module _ (o : Opening) (ops : List Op) where
 
 -- ---- a call of another kind, while one is under way
 
+abbrev withOrder : Slots → Account → Account
+withOrder o a = withSlots (o .freed) (o .used) a
+
 module _ {w : World} {a : Account} (h : Tie w a) (u : busy a ≡ true) where
   -- no call of the writer but step and run is accepted
   append-refused : (os : List Op) → answerOf (reply callRule (Append os) w) ≢ 0
@@ -191,16 +194,18 @@ module _ {w : World} {a : Account} (h : Tie w a) (u : busy a ≡ true) where
       writer opening.Flush = refl
       writer opening.Take = refl
 
-  -- a call of another kind changes one reader at most
-  other-changes : (P : Account → Type 0) → P a → ((i : ℕ) (f : Reader → Reader) → P (ofReader i f a)) → (k : Call) → isStep k ≡ false → isRun k ≡ false → P (after k w a)
+  -- a call of another kind changes one reader at most, and the order of the free slots
+  other-changes : (P : Account → Type 0) → P a → ((i : ℕ) (f : Reader → Reader) (o : Slots) → P (withOrder o (ofReader i f a))) → (k : Call) → isStep k ≡ false → isRun k ≡ false → P (after k w a)
   unfolding after
   other-changes P x f Create s q = done (answerOf (reply callRule Create w))
     where
-      done : (n : ℕ) → P (ifDone n (ofReader (valueOf (reply callRule Create w)) newReader) a)
-      done zero = f (valueOf (reply callRule Create w)) newReader
+      done : (n : ℕ) → P (ifDone n (λ b. handsOut (valueOf (reply callRule Create w)) (ofReader (valueOf (reply callRule Create w)) newReader b)) a)
+      done zero = f (valueOf (reply callRule Create w)) newReader _
       done (suc n) = x
   other-changes P x f (On i y) s q =
-      f i (spoke y (answerOf (reply callRule (On i y) w)) (valueOf (reply callRule (On i y) w)) (a .store .published))
+      let o = reply callRule (On i y) w in
+      let r = spoke y (answerOf o) (valueOf o) (a .store .published) in
+      leaves-any P y (answerOf o) i _ (f i r _) (f i r _)
   other-changes P x f (Append os) s q = undone P x (appends os) _ (append-refused os)
   other-changes P x f (Open p) s q = undone P x (asked p (valueOf (reply callRule (Open p) w))) _ (open-refused p)
   other-changes P x f Step s q = clash refl s
@@ -211,7 +216,7 @@ module _ {w : World} {a : Account} (h : Tie w a) (u : busy a ≡ true) where
       let m : counted k (answerOf (reply callRule k w)) (valueOf (reply callRule k w)) ≡ 0 =
       λ i. elim (q i) [ true ↦ valueOf (reply callRule k w) | false ↦ bit (s i && eqb (answerOf (reply callRule k w)) 0) ] in
       forth (λ z. clash (declined-tries a k (sym (right h k q .answer) ∙ z) .0) s) (omega arith)
-      (other-changes (λ b. b .plan ≡ a .plan) refl (λ i f. refl) k s q ∙ ap (λ (i : ℕ). drop i (a .plan)) (sym m))
+      (other-changes (λ b. b .plan ≡ a .plan) refl (λ i f o. refl) k s q ∙ ap (λ (i : ℕ). drop i (a .plan)) (sym m))
 
   goes : (k : Call) → Goes k a (after k w a) (reply callRule k w)
   unfolding after
@@ -228,10 +233,10 @@ module _ {w : World} {a : Account} (h : Tie w a) (u : busy a ≡ true) where
 
   keeps-call : (o : Opening) (ops : List Op) → Keeps o ops a → (k : Call) → answerOf (reply callRule k w) ≢ 14 → Keeps o ops (after k w a)
   unfolding after
-  keeps-call o ops x Create ne = other-changes (Keeps o ops) x (λ i f. x) Create refl refl
-  keeps-call o ops x (On i y) ne = x
-  keeps-call o ops x (Append os) ne = other-changes (Keeps o ops) x (λ i f. x) (Append os) refl refl
-  keeps-call o ops x (Open p) ne = other-changes (Keeps o ops) x (λ i f. x) (Open p) (open-other p .no-step) (open-other p .no-run)
+  keeps-call o ops x Create ne = other-changes (Keeps o ops) x (λ i f y. x) Create refl refl
+  keeps-call o ops x (On i y) ne = other-changes (Keeps o ops) x (λ i f y. x) (On i y) (on-other i y .no-step) (on-other i y .no-run)
+  keeps-call o ops x (Append os) ne = other-changes (Keeps o ops) x (λ i f y. x) (Append os) refl refl
+  keeps-call o ops x (Open p) ne = other-changes (Keeps o ops) x (λ i f y. x) (Open p) (open-other p .no-step) (open-other p .no-run)
   keeps-call o ops x Step ne = keeps-stopped o ops (answerOf (reply callRule Step w)) _ ne (made (answerOf (reply callRule Step w)))
     where
       made : (n : ℕ) → Keeps o ops (ifDone n (λ b. advanced (b .plan) b) a)

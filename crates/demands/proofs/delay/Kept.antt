@@ -26,7 +26,7 @@ use Rattle.write.specs.World.{Machine, reply, answerOf, valueOf}
 use Rattle.demands.specs.Account.{delays, Reader, Store, Account, Move, begin, poll, copy, apply, swap, snap, null, lock, finish, upFrom, provided, publishing, publishPlan, firstInside, planOf, unswapped, withAt, inside, withPlan, turned, closes, missed, spoke, advanced, ran, noted}
 use Rattle.demands.specs.Table.{meetsReader}
 use Rattle.demands.specs.Demands.{Told, freshTold, tell, telling, told}
-use Rattle.demands.proofs.account.Moves.{meets, isSwap, isSnap, each-move, ran-keeps}
+use Rattle.demands.proofs.account.Moves.{meets, isSwap, isSnap, each-move, leaves-any, ran-keeps}
 
 -- ---- plans
 
@@ -150,7 +150,9 @@ declined-kept n a h = by Kept (eqb n 14) (λ _. kept-plan h [] (λ _. refl)) (λ
 noted-kept : (k : Call) (n v : ℕ) (a : Account) → Kept a → Kept (noted k n v a)
 noted-kept Create zero v a h = kept-at h v _ (unowned (a .readers v .snapshot) (h .readers v .unread))
 noted-kept Create (suc n) v a h = h
-noted-kept (On i x) n v a h = kept-at h i _ (spoke-fine (a .readers i) (h .readers i) x n v (a .store .published))
+noted-kept (On i x) n v a h =
+    let r = kept-at h i _ (spoke-fine (a .readers i) (h .readers i) x n v (a .store .published)) in
+    leaves-any Kept x n i _ r r
 noted-kept (Append os) zero v a h =
     by Kept (unswapped (a .store))
     (λ u. kept-at (record { readers = h .readers; unlogged = λ n. omega (arith, h .unlogged n); unsnapped = h .unsnapped }) 0 _ (turned-fine (a .readers 0) (h .readers 0) 2 (a .readers 0 .due)))

@@ -6,9 +6,7 @@ use mathlib.Core.Bool.{Bool, true, false, not, _&&_}
 use mathlib.Core.List.{List, [], _∷_}
 use native.Mathlib.Decide.{ℕ-discrete}
 use lib.Dec.{eqb}
-use borrow.Author.Tests.{leb-false, not-true}
 use Rattle.table.specs.Order.{Op}
-use Rattle.table.specs.Seek.{seek}
 use Rattle.table.proofs.Seek.{seek-found}
 use Rattle.table.proofs.Split.{by}
 use Rattle.table.proofs.Booleans.{clash}
@@ -17,24 +15,22 @@ use Rattle.read.specs.declared.Due.the-variants.{Nothing, Load, Restore}
 use Rattle.read.specs.declared.Control.{Control}
 use Rattle.read.specs.declared.Handle.{Handle}
 use Rattle.read.specs.declared.Handle.the-variants.{Drop, Enter, GoOn, Release, LookUp, WasDropped}
-use Rattle.read.specs.Machine.{slotCount, guardCount}
-use Rattle.read.specs.Handles.{smallest, bit}
-use Rattle.read.specs.Calls.{slotAt, createSigns}
+use Rattle.read.specs.Machine.{guardCount}
+use Rattle.read.specs.Calls.{slotAt}
 use Rattle.read.specs.Admission.{handleNumber}
-use Rattle.read.proofs.Verdicts.{silent}
 use Rattle.write.specs.declared.Opening.{Opening}
 use Rattle.write.specs.Call.{Call, Create, On, Append, Open, Step, Run}
 use Rattle.write.specs.Machine.{callRule}
 use Rattle.write.specs.World.{World, reply, answerOf, valueOf}
-use Rattle.write.specs.Numbers.{is, isRun}
+use Rattle.write.specs.Numbers.{is}
 use Rattle.demands.specs.Account.{Reader, Account, Move, withAt, lowest, inside, newReader, dropped, turned, opens, closes, readsEpoch, missed, spoke, unswapped, withPlan, advanced, ran, ifDeclined, noted}
-use Rattle.demands.specs.Table.{wantedValue, worth, worthOn}
+use Rattle.demands.specs.Table.{worthOn}
 use Rattle.demands.proofs.Others.{on-other}
 use Rattle.demands.proofs.shown.Guards.{open-below, same-at, other-at}
-use Rattle.demands.proofs.account.Moves.{no-move, ran-keeps}
-use Rattle.demands.proofs.account.Answers.{wanted-create}
-use Rattle.demands.proofs.account.Calls.{Tie, whole}
-use Rattle.demands.proofs.account.Demands.{admitted-zero, right, owner}
+use Rattle.demands.proofs.account.Moves.{no-move, leaves-any, ran-keeps}
+use Rattle.demands.proofs.account.Order.{next-is, next-vacant}
+use Rattle.demands.proofs.account.Calls.{Tie}
+use Rattle.demands.proofs.account.Demands.{worth-is, owner}
 
 module _ (j : ℕ) where
   -- guard j, if it is open, stays so with what it loaded
@@ -135,20 +131,10 @@ module _ {w : World} {a : Account} (h : Tie w a) (i j : ℕ) where
   abbrev c : Control
   c = w .state .control
 
-  -- the value of a call that was answered 0
-  worth-is : (k : Call) → isRun k ≡ false → answerOf (reply callRule k w) ≡ 0 → valueOf (reply callRule k w) ≡ worth a k
-  unfolding wantedValue
-  worth-is k q z =
-      right h k q .value ∙ ap (λ (n : ℕ). elim n [ zero ↦ worth a k | suc m ↦ bit (eqb m 13) ]) (sym (right h k q .answer) ∙ z)
-
   free-slot : answerOf (reply callRule Create w) ≡ 0 → a .readers (valueOf (reply callRule Create w)) .lives ≡ false
   free-slot z =
-      let f = seek (λ k. not (a .readers k .lives)) 0 slotCount in
-      let signs = createSigns c f in
-      let v = admitted-zero (smallest signs) signs refl 0 refl
-      (sym (wanted-create a c (h .steers) (whole h) f refl) ∙ sym (right h Create refl .answer) ∙ z) in
-      let lt = leb-false slotCount f (silent 12 signs v) in
-      subst (λ (x : ℕ). a .readers x .lives ≡ false) (sym (worth-is Create refl z)) (not-true (a .readers f .lives) (seek-found (λ k. not (a .readers k .lives)) slotCount lt))
+      subst (λ (x : ℕ). a .readers x .lives ≡ false) (next-is (h .order) ∙ sym (worth-is h Create refl z))
+      (sym (h .reads (c .free) .lives) ∙ next-vacant (h .order))
 
   create-stays : (n v : ℕ) → (n ≡ 0 → a .readers v .lives ≡ false) → Stays j (a .readers i) (noted Create n v a .readers i)
   create-stays zero v f = at-stays j (a .readers) v (newReader (a .readers v)) i (λ e o. clash (owner h v j o) (f refl))
@@ -158,9 +144,11 @@ module _ {w : World} {a : Account} (h : Tie w a) (i j : ℕ) where
       Stays j (a .readers i) (noted k (answerOf (reply callRule k w)) (valueOf (reply callRule k w)) a .readers i)
   call-stays Create ne = create-stays (answerOf (reply callRule Create w)) (valueOf (reply callRule Create w)) free-slot
   call-stays (On k x) ne =
-      at-stays j (a .readers) k _ i (λ e.
+      let o = reply callRule (On k x) w in
+      let s = at-stays j (a .readers) k _ i (λ e.
       spoke-stays j (a .readers k) (λ o. open-below (slotAt (w .state) k .guards) j (h .reads k .guards j ∙ o)) (a .store .published) x
-      (λ q. ne (λ z. On (e z) (q z))) (a .taken) (answerOf (reply callRule (On k x) w)) (valueOf (reply callRule (On k x) w)) (worth-is (On k x) (on-other k x .no-run)))
+      (λ q. ne (λ z. On (e z) (q z))) (a .taken) (answerOf o) (valueOf o) (worth-is h (On k x) (on-other k x .no-run))) in
+      leaves-any (λ (b : Account). Stays j (a .readers i) (b .readers i)) x (answerOf o) k _ s s
   call-stays (Append os) ne = append-stays j i os (answerOf (reply callRule (Append os) w)) (valueOf (reply callRule (Append os) w)) a
   call-stays (Open o) ne = open-stays j i o (answerOf (reply callRule (Open o) w)) (valueOf (reply callRule (Open o) w)) a
   call-stays Step ne = made-stays j i (answerOf (reply callRule Step w)) (valueOf (reply callRule Step w)) a

@@ -35,7 +35,7 @@ use Rattle.demands.proofs.shown.Unused.{clear-operatedAll, clear-logged
 use Rattle.demands.proofs.shown.Log.{length-ops, ops-loggedAll, all-made}
 use Rattle.demands.proofs.shown.Stages.{Begins, begins-polling, begins-beginning, begins-taking, stage-polling, stage-beginning, begin-stage, take-stage, log-stage, apply-stage}
 use Rattle.demands.proofs.shown.Lifts.{ctl, world, withControl, slotBack, snapBack, StageIn, snap-back, both-back, slot-keeps, control-keeps, write-keeps}
-use Rattle.demands.proofs.Sound.{SoundIn, sound-slot}
+use Rattle.demands.proofs.Sound.{Firm, firm-slot}
 use Rattle.demands.proofs.shown.Steps.{fit-write}
 
 -- ---- slot 0 is left alone while a call of the writer is under way
@@ -56,7 +56,7 @@ own-rests p (Release j) e = in-time (underway p) e
 own-rests p (LookUp j key) e = in-time (underway p) e
 own-rests p WasDropped e = in-time (underway p) e
 
-module _ {w : World} {t : Seen} (sound : SoundIn w) (inv : Inv w t) where
+module _ {w : World} {t : Seen} (sound : Firm w) (inv : Inv w t) where
   -- slot 0 is not called on while a call of the writer is under way
   pub own-quiet : (i : ℕ) (h : Handle) (s : Slot) → OnPassed (ctl w) (eqb i 0) (slotAt (w .state) i) h → i ≡ 0 → underway (ctl w .phase) ≡ true → Quiet s
   own-quiet i h s u z r =
@@ -91,7 +91,7 @@ module _ {w : World} {t : Seen} (sound : SoundIn w) (inv : Inv w t) where
           let h = slot-keeps sound inv 0 some-slot (withDue ((s .epoch + 2) % 2 ^ 64) (s .due) s) (t .loaded) (λ k ne. refl) (λ _ u. not-underway u)
           (twice-view (inv .each 0) (rest .quiet)) in
           snap-back 0 _
-          (write-keeps (sound-slot 0 _ sound) h (operatedAll os) (after os (writeCopy w)) (all-made os (writeCopy w) law (fit-write sound inv))
+          (write-keeps (firm-slot 0 _ sound) h (operatedAll os) (after os (writeCopy w)) (all-made os (writeCopy w) law (fit-write sound inv))
           (clear-operatedAll os) (inv .unused .log) (ap (λ (f : Bool). orAll f (reachAt (ctl w .phase) .cleared)) q) (within-same refl)
           (λ u. not-underway u) (λ u. not-underway u)
           (subst

@@ -17,13 +17,13 @@ use Rattle.read.specs.declared.Phase.the-variants.{Gone}
 use Rattle.read.specs.declared.Job.{Job}
 use Rattle.read.specs.declared.Slot.{Slot}
 use Rattle.read.specs.declared.Control.{Control}
-use Rattle.read.specs.Machine.{slotCount, noSlot, noGuards, logWords, isOpen, underway, isGone}
+use Rattle.read.specs.Machine.{slotCount, noSlot, noGuards, logWords, withFree, isOpen, underway, isGone}
 use Rattle.read.specs.Handles.{copyOf}
 use Rattle.read.specs.Calls.{slotAt}
 use Rattle.write.specs.Steps.{ofLeft, ofRight, seen}
 use Rattle.write.specs.Runs.{snapAt}
 use Rattle.write.specs.World.{World}
-use Rattle.demands.proofs.Sound.{SoundIn}
+use Rattle.demands.proofs.Sound.{Firm}
 use Rattle.demands.proofs.Sides.{readCopy, writeCopy}
 use Rattle.demands.proofs.shown.Invariant.{Seen, sight, Quiet, Reach, reachAt, orAll, firstly, View, ViewOf, ClearLog, Stage, Inv, opsFrom, opsOf}
 use Rattle.demands.proofs.shown.Unused.{KeepsClear, written-unused}
@@ -70,6 +70,19 @@ snap-back i w {t} h =
 pub both-back : (i : ℕ) (w : World) {t : Seen} → Inv w t → Inv (snapBack i (slotBack i w)) t
 both-back i w h = snap-back i (slotBack i w) (slot-back i w h)
 
+-- another slot that is handed out next: no part of the invariant speaks of it
+pub free-keeps : {w : World} {t : Seen} (k : ℕ) → Inv w t → Inv (withControl (withFree k (ctl w)) w) t
+free-keeps k h =
+    record {
+      each = h .each;
+      own = h .own;
+      read = h .read;
+      atBegin = h .atBegin;
+      stage = h .stage;
+      unused = h .unused;
+      spent = h .spent;
+    }
+
 -- ---- the copies
 
 read-same : (b : Bool) (f : List ℕ → List ℕ) (l r : List ℕ) → copyOf b (ofLeft b f l) (ofRight b f r) ≡ copyOf b l r
@@ -92,7 +105,7 @@ abbrev pub StageIn : World → Seen → Phase → Job → Type 0
 StageIn w t p j =
     Stage p j (ctl w .second) (ctl w .swapped) (opsOf w) (readCopy w) (writeCopy w) (t .accepted) (t .published) (ctl w .first)
 
-module _ {w : World} {t : Seen} (sound : SoundIn w) (inv : Inv w t) where
+module _ {w : World} {t : Seen} (sound : Firm w) (inv : Inv w t) where
   -- a slot that is not there has no guard
   no-guard : (i j : ℕ) → isOpen (slotAt (w .state) i .guards) j ≡ true → slotCount ≤ i → ⊥
   no-guard i j o le =

@@ -25,7 +25,7 @@ use Rattle.read.specs.declared.Made.{Made}
 use Rattle.read.specs.Machine.{openOn, withReading, slotCount, guardCount, shut, isOpen, standsRight, putGuard, firstGuard, anyOpen, allOpen, isDue, isLoad, newSlot}
 use Rattle.read.specs.Handles.{withDue, freed, guarded, loaded, entered, wentOn, released, copyOf, mistimed, handled}
 use Rattle.read.specs.Admission.{column, entry, handleNumber}
-use Rattle.write.specs.Steps.{holds, seen}
+use Rattle.write.specs.Steps.{holds, seen, vacated}
 use Rattle.demands.specs.Account.{withAt}
 use Rattle.demands.proofs.Passed.{OnPassed}
 use Rattle.demands.proofs.shown.Invariant.{Shape, outside, announced, inside, Quiet, Reach, reach, before, firstly, Held, View}
@@ -97,9 +97,15 @@ twice-view {s} v q =
 
 -- a handle that is given back at rest
 pub freed-view :
-    {right : Bool} {h : Reach} {i snap : ℕ} {l r : List ℕ} {f : ℕ → List Op} {s : Slot} → View right h i snap l r f s → Quiet s →
-    View right h i snap l r f (freed s)
-freed-view v q = no-guards (v .four) (outside (at-rest (v .shape) (q .idle) (q .alone)) (q .idle) (q .alone)) (q .alone)
+    {right : Bool} {h : Reach} {i snap : ℕ} {l r : List ℕ} {f : ℕ → List Op} {s : Slot} (k : ℕ) → View right h i snap l r f s → Quiet s →
+    View right h i snap l r f (freed k s)
+freed-view k v q = no-guards (v .four) (outside (at-rest (v .shape) (q .idle) (q .alone)) (q .idle) (q .alone)) (q .alone)
+
+-- the writer's own, at take's finish
+pub vacated-view :
+    {right : Bool} {h : Reach} {i snap : ℕ} {l r : List ℕ} {f : ℕ → List Op} {s : Slot} (k : ℕ) → View right h i snap l r f s → Quiet s →
+    View right h i snap l r f (vacated k s)
+vacated-view {right} {h} {i} {snap} {l} {r} {f} {s} k v q = by (View right h i snap l r f) (s .used) (λ _. freed-view k v q) (λ _. v)
 
 pub new-view : {right : Bool} {h : Reach} {i snap : ℕ} {l r : List ℕ} {f : ℕ → List Op} → View right h i snap l r f newSlot
 new-view = no-guards refl (outside odd-zero refl none-open) none-open
@@ -182,9 +188,9 @@ module _ (c : Control) {h : Reach} {i snap : ℕ} {l r : List ℕ} {f : ℕ → 
     timely : (own : Bool) (hd : Handle) → OnPassed c own s hd → mistimed (handleNumber hd) (s .due) ≡ false
     timely own hd u = neither (eqb (entry (c .phase) (column hd own)) 6) _ (u .timely) .1
 
-    pub handled-view : (own : Bool) (hd : Handle) → OnPassed c own s hd → Kept hd (handled c s hd l r)
+    pub handled-view : (own : Bool) (hd : Handle) → OnPassed c own s hd → Kept hd (handled c i s hd l r)
     unfolding handled
-    handled-view own Drop u = freed-view v (record { idle = timely own Drop u; alone = u .guards })
+    handled-view own Drop u = freed-view (c .free) v (record { idle = timely own Drop u; alone = u .guards })
     handled-view own Enter u = entered-view (timely own Enter u) (u .fewer)
     handled-view own GoOn u = wentOn-view (s .due) refl (not-false _ (timely own GoOn u)) (lacks-none _ _ _ (u .fewer))
     handled-view own (Release j) u = released-view j v (not-false _ (u .guard))

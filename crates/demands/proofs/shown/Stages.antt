@@ -115,6 +115,7 @@ steered null lock second p j n s c = record {
   job = j;
   length = n;
   swapped = s;
+  free = c .free;
 }
 
 -- before null take has waited for nobody

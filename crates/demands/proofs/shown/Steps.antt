@@ -20,29 +20,29 @@ use Rattle.read.specs.declared.Job.the-variants.{Publish, Try, TakeFirst, TakeS
 use Rattle.read.specs.declared.Control.{Control}
 use Rattle.read.specs.declared.Reply.{Reply}
 use Rattle.read.specs.Machine.{slotCount, isOpen, underway, isGone, place}
-use Rattle.read.specs.Handles.{copyOf, freed}
+use Rattle.read.specs.Handles.{copyOf}
 use Rattle.read.specs.Calls.{Lent, lent, slotAt}
 use Rattle.write.specs.declared.Moved.{Moved}
-use Rattle.write.specs.Steps.{holds, seen, snapping, swappedOver, logApplied, over, unlogged, moved, stopped, stepAt}
+use Rattle.write.specs.Steps.{holds, seen, vacated, firstThen, snapping, swappedOver, logApplied, over, unlogged, moved, stopped, stepAt}
 use Rattle.write.specs.Runs.{snapAt, lift, stepOn}
 use Rattle.write.specs.World.{World, worldOf, answerOf}
 use Rattle.write.proofs.Control.{Placed, some-slot}
-use Rattle.demands.proofs.Sound.{SoundIn, sound-slot}
+use Rattle.demands.proofs.Sound.{Firm, firm-slot}
 use Rattle.demands.proofs.account.Plan.{moveOf}
 use Rattle.demands.proofs.Sides.{readCopy, writeCopy}
 use Rattle.demands.proofs.shown.Invariant.{Seen, afterMove, Quiet, Stage, Lacks, Inv, opAt, opsFrom, opsOf, Reach, reach, before, reachAt, firstly, orAll, Held, ClearLog}
-use Rattle.demands.proofs.shown.Slot.{Within, within-same, within-firstly, weaken, passed-held, polled-view, turned-view, freed-view}
+use Rattle.demands.proofs.shown.Slot.{Within, within-same, within-firstly, weaken, passed-held, polled-view, turned-view, vacated-view}
 use Rattle.demands.proofs.shown.Log.{noOp, length-ops, op-ops, ops-unlogged, op-applied, over-whole}
 use Rattle.demands.proofs.shown.Stages.{Stands, here, stands-keeping, stands-draining, stands-polling, begins-beginning, stands-snapping, stands-lastPolling, stands-lastSnapping, snapping-onward, steered, onward, full, stage-polling, stage-beginning, stage-snapping, idle-stage, poll-stage, copy-stage, drain-stage, keep-stage, snap-stage, swap-stage, from-null, from-lock, from-lastSnap, from-lastPoll, from-finish, to-lock, to-lastPolling, to-lastSnapping, to-gone}
 use Rattle.demands.proofs.shown.Unused.{KeepsClear, of-copy, clear-over, clear-logApplied, clear-zeros, clear-unlogged}
-use Rattle.demands.proofs.shown.Lifts.{ctl, withControl, wrote, slotBack, snapTo, snapBack, slot-back, snap-back, both-back, ViewAs, StageIn, slot-keeps, control-keeps, write-keeps, snap-keeps}
+use Rattle.demands.proofs.shown.Lifts.{ctl, withControl, wrote, slotBack, snapTo, snapBack, slot-back, snap-back, both-back, free-keeps, ViewAs, StageIn, slot-keeps, control-keeps, write-keeps, snap-keeps}
 
 -- where all are cleared, they are before the first swap too
 all-full : (f : Bool) {k : ℕ} → k ≡ slotCount → orAll f k ≡ slotCount
 all-full true e = refl
 all-full false e = e
 
-module _ {w : World} {t : Seen} (sound : SoundIn w) (inv : Inv w t) where
+module _ {w : World} {t : Seen} (sound : Firm w) (inv : Inv w t) where
   -- after a step, by its answer
   abbrev pub Next : Phase → Lent Reply → Type 0
   Next p o = Inv (worldOf o) (elim (answerOf o) [ zero ↦ afterMove (moveOf p) t | suc a ↦ t ])
@@ -265,16 +265,17 @@ module _ {w : World} {t : Seen} (sound : SoundIn w) (inv : Inv w t) where
   unfolding stepAt
   finish-keeps e =
       let s = slotAt (w .state) 0 in
+      let k = ctl w .free in
       let q = quiet-at e refl in
-      let h = slot-keeps sound inv 0 some-slot (freed s) (t .loaded) (λ k ne. refl) (λ _ _. record { idle = q .idle; alone = q .alone })
-      (freed-view (inv .each 0) q) in
+      let h = slot-keeps sound inv 0 some-slot (vacated k s) (t .loaded) (λ k ne. refl)
+      (λ _ _. by Quiet (s .used) (λ _. record { idle = q .idle; alone = q .alone }) (λ _. q)) (vacated-view k (inv .each 0) q) in
       let all = ap (λ (p : Phase). reachAt p .cleared) e in
-      snap-back 0 _
-      (write-keeps (sound-slot 0 (freed s) sound) h zeros empty (ap (λ (n : ℕ). replicate n 0) (fit-write .sized)) clear-zeros (λ x b. getD-zeros (length (w .log)) x)
+      free-keeps (firstThen k s) (snap-back 0 _
+      (write-keeps (firm-slot 0 (vacated k s) sound) h zeros empty (ap (λ (n : ℕ). replicate n 0) (fit-write .sized)) clear-zeros (λ x b. getD-zeros (length (w .log)) x)
       (all-full (ctl w .first) all)
       (λ i. subst (λ (p : Phase). Within i (firstly (ctl w .first) (reachAt Gone)) (firstly (ctl w .first) (reachAt p))) (sym e)
       (within-firstly (ctl w .first) (record { cleared = omega arith; snapped = λ z. z; emptied = le-refl slotCount; resnapped = λ z. z })))
-      (λ u. clash u refl) (λ u. clash u refl) (to-gone (from-finish (stage-at e)) refl) (λ _. ap (λ (n : ℕ). replicate n 0) (sound .good .words .log)))
+      (λ u. clash u refl) (λ u. clash u refl) (to-gone (from-finish (stage-at e)) refl) (λ _. ap (λ (n : ℕ). replicate n 0) (sound .good .words .log))))
 
   step-keeps : (p : Phase) → ctl w .phase ≡ p → Next p (stepped p (place p))
   unfolding stepAt

@@ -1,23 +1,28 @@
 -- The builder of wrong machines, given the rules' own step, is the rules: so it meets all that they meet. And so is that of appends, given
--- the rules' own test.
-use Prim.Native.Nat.{ℕ}
+-- the rules' own test, and that of creates, given the order as it is.
+use Prim.Native.Nat.{ℕ, zero, suc}
 use mathlib.Core.Path.{_≡_, refl, sym, subst}
 use mathlib.Core.List.{List}
 use Rattle.table.specs.Order.{Op}
 use Rattle.read.specs.declared.State.{State}
+use Rattle.read.specs.declared.Reply.{Reply}
+use Rattle.read.specs.Calls.{Lent}
 use Rattle.write.specs.Call.{Call, Create, On, Append, Open, Step, Run}
 use Rattle.write.specs.Steps.{stepAt}
 use Rattle.write.specs.Begins.{lawfulBatch, appendOn}
 use Rattle.write.specs.Runs.{stepOn, runWhile, runOn}
 use Rattle.write.specs.Machine.{callOn, callRule}
+use Rattle.write.specs.World.{answerOf}
 use Rattle.demands.specs.Demand1.{Demand1}
 use Rattle.demands.specs.Demands.{Demands}
 use Rattle.demands.specs.Follows.{Follows}
+use Rattle.demands.specs.Reuse.{Reuse}
 use Rattle.demands.specs.KnownEnds.{KnownEnds}
-use Rattle.demands.proofs.wrong.Machines.{stepBy, withStep, testing}
+use Rattle.demands.proofs.wrong.Machines.{stepBy, withStep, creating, testing}
 use Rattle.demands.proofs.refusal.Refused.{demand1}
 use Rattle.demands.proofs.account.Demands.{demands}
 use Rattle.demands.proofs.delay.Ends.{follows}
+use Rattle.demands.proofs.Reuse.{reuse}
 use Rattle.demands.proofs.KnownEnds.{known-ends}
 
 -- ---- the machine
@@ -43,6 +48,9 @@ builder-demands = subst Demands same-machine demands
 pub builder-follows : Follows (withStep stepAt)
 builder-follows = subst Follows same-machine follows
 
+pub builder-reuse : Reuse (withStep stepAt)
+builder-reuse = subst Reuse same-machine reuse
+
 pub builder-ends : KnownEnds (withStep stepAt)
 builder-ends = subst KnownEnds same-machine known-ends
 
@@ -51,3 +59,12 @@ builder-ends = subst KnownEnds same-machine known-ends
 pub tester : (os : List Op) (st : State) (l r g : List ℕ) → testing lawfulBatch (Append os) st l r g ≡ callRule (Append os) st l r g
 unfolding callRule callOn appendOn
 tester os st l r g = refl
+
+-- ---- a create
+
+pub arranger : (st : State) (l r g : List ℕ) → creating (λ x. x) Create st l r g ≡ callRule Create st l r g
+arranger st l r g = go (answerOf (callRule Create st l r g))
+  where
+    go : (n : ℕ) → _≡_ {A = Lent Reply} (elim n [ zero ↦ callRule Create st l r g | suc m ↦ callRule Create st l r g ]) (callRule Create st l r g)
+    go zero = refl
+    go (suc n) = refl

@@ -9,7 +9,7 @@ returns : tie.Need-returns
 returns c =
     let made = c .before .before .before .before .before .before .before in
     let slot = made .before .before .before .before in
-    let told = slot .before .before in
+    let told = slot .before .before .before in
     append-made _ _ _ _ (told .before .before .judge .ensures) (told .enum-told .given .1) _ (slot .slot-at .ensures) (made .extend-on .ensures) (c .put-back .ensures)
 
 pub extend-spec : {M : Type 1} → statement M

@@ -8,6 +8,7 @@ use Rattle.table.specs.Answers.{number}
 use Rattle.table.proofs.Computes.{apart}
 use Rattle.table.specs.declared.Answer.the-variants.{Done, NoGuard}
 use Rattle.read.specs.declared.Slot.{Slot}
+use Rattle.read.specs.declared.Link.the-variants.{Fresh}
 use Rattle.read.specs.Machine.{withUse, isOpen, withReading, shut}
 use Rattle.read.specs.Handles.{released}
 use Rattle.read.proofs.Computes.{rules}
@@ -61,11 +62,11 @@ refusesAll-wrong k h = apart (λ r. number (r .answer)) refl (says k refusesAll 
 
 -- a free record is served
 abbrev servesFree : ℕ → Slot → Released
-servesFree guard s = releaseRule guard (withUse true s)
+servesFree guard s = releaseRule guard (withUse true (s .link) s)
 
 servesFree-wrong : (k : Function) → Promise k servesFree → ⊥
 unfolding releaseRule rules
-servesFree-wrong k h = apart (λ r. number (r .answer)) refl (says k servesFree h 0 (withUse false inside) refl)
+servesFree-wrong k h = apart (λ r. number (r .answer)) refl (says k servesFree h 0 (withUse false Fresh inside) refl)
 
 -- a free record with a closed guard is answered 9, and not the smaller number
 abbrev guardFirst : ℕ → Slot → Released
@@ -73,4 +74,4 @@ guardFirst guard s = elim (isOpen (s .guards) guard) [ true ↦ releaseRule guar
 
 guardFirst-wrong : (k : Function) → Promise k guardFirst → ⊥
 unfolding releaseRule rules
-guardFirst-wrong k h = apart (λ r. number (r .answer)) refl (says k guardFirst h 1 (withUse false inside) refl)
+guardFirst-wrong k h = apart (λ r. number (r .answer)) refl (says k guardFirst h 1 (withUse false Fresh inside) refl)

@@ -14,11 +14,13 @@ use Rattle.table.specs.Order.{Op}
 use Rattle.table.specs.declared.Answer.{Answer}
 use Rattle.table.specs.declared.Answer.the-variants as answer
 use Rattle.read.specs.declared.Reply.{Reply}
+use Rattle.read.specs.Machine.{withFree}
 use Rattle.read.specs.Calls.{Lent, lent}
+use Rattle.read.proofs.Cases.{stateOf}
 use Rattle.write.specs.Begins.{batchRoom}
 use Rattle.write.specs.Call.{Call, Append, Step}
-use Rattle.write.specs.Numbers.{isRun, opsOf}
-use Rattle.write.specs.Machine.{callRule}
+use Rattle.write.specs.Numbers.{is, isRun, opsOf}
+use Rattle.write.specs.Machine.{callOn, callRule}
 use Rattle.write.specs.World.{Machine, World, freshWorld, reply, worldOf, answerOf, valueOf, played}
 use Rattle.format.specs.declared.Flaw.{Flaw}
 use Rattle.format.specs.Schedule.{numberAt, bytesOf, headBytes, recordBytes, count, startOf, fieldsAt, membersAt, unitsFrom, entriesIn, flawOf}
@@ -282,6 +284,32 @@ idleMachine k st l r g = lent (record { answer = answer.Done; value = 0; state =
 idleMachine-wrong : PlayPromise (over idleMachine) → ⊥
 unfolding rules
 idleMachine-wrong h = apart (byte 1) refl (h creates room refl)
+
+-- ---- a drop that leaves which slot is first
+
+abbrev dropForgets : Machine
+dropForgets k st l r g =
+    let o = callOn k st l r g in
+    let d = o .made .state in
+    elim (is 2 k) [
+      | true ↦
+          lent
+          (record {
+            answer = o .made .answer;
+            value = valueOf o;
+            state = stateOf (withFree (st .control .free) (d .control)) (d .slots) (d .snapshots);
+          })
+          (o .left) (o .right) (o .log)
+      | false ↦ o
+    ]
+
+-- create; drop 1; create, which is to hand out slot 1 again
+abbrev again : Bytes
+again = slice (head ++ (create ++ (recordOf 2 1 0 0 0 0 ++ create))) refl
+
+dropForgets-wrong : PlayPromise (over dropForgets) → ⊥
+unfolding rules
+dropForgets-wrong h = apart (byte 19) refl (h again room refl)
 
 -- ---- a run that invents its value, forgets it where it is held, or goes on behind its end
 

@@ -16,7 +16,6 @@ use Rattle.read.proofs.admission.entry.Reads as admission-entry
 use Rattle.read.proofs.guards.is_open.Reads as guards-is-open
 use Rattle.read.proofs.guards.any_open.Reads as guards-any-open
 use Rattle.read.proofs.guards.is_due.Reads as guards-is-due
-use Rattle.read.proofs.guards.new_slot.Reads as guards-new-slot
 use Rattle.read.proofs.guards.freed.Reads as guards-freed
 use Rattle.read.proofs.guards.released.Reads as guards-released
 use Rattle.read.proofs.truth.either.Reads as either
@@ -28,6 +27,8 @@ use Rattle.machine.proofs.drop.Reads as drop
 use Rattle.machine.proofs.enter.Reads as enter
 use Rattle.machine.proofs.go_on.Reads as go-on
 use Rattle.read.proofs.handles.handle.Reads as handles-handle
+use Rattle.read.proofs.handles.create.Reads as handles-create
+use Rattle.read.proofs.order.orderly.Reads as orderly
 use Rattle.machine.proofs.release.Reads as release
 use Rattle.machine.proofs.look_up.Reads as look-up
 use Rattle.machine.proofs.was_dropped.Reads as was-dropped
@@ -71,7 +72,7 @@ guards-is-load-determined κs a r q s t h l = h ∙ sym l
 guards-no-slot-determined : Determines (inner.no-slot .post)
 guards-no-slot-determined κs a r q s t h l = h ∙ sym l
 
-guards-new-slot-determined : Determines guards-new-slot.Post
+guards-new-slot-determined : Determines (inner.new-slot .post)
 guards-new-slot-determined κs a r q s t h l = h ∙ sym l
 
 guards-freed-determined : Determines guards-freed.Post
@@ -128,6 +129,12 @@ go-on-determined κs a r q s t h l = h ∙ sym l
 
 handles-handle-determined : Determines handles-handle.Post
 handles-handle-determined κs a r q s t h l = h ∙ sym l
+
+handles-create-determined : Determines handles-create.Post
+handles-create-determined κs a r q s t h l = h ∙ sym l
+
+orderly-determined : Determines orderly.Post
+orderly-determined κs a r q s t h l = h ∙ sym l
 
 on-handle-determined : Determines (within.on-handle .post)
 on-handle-determined κs a r q s t h l = h ∙ sym l

@@ -15,9 +15,9 @@ use Rattle.read.specs.declared.Verdict.{Verdict}
 use Rattle.read.specs.declared.Made.{Made}
 use Rattle.read.specs.declared.Reply.{Reply}
 use Rattle.read.specs.declared.Handle.the-variants.{Drop, Enter, GoOn, Release, LookUp, WasDropped}
-use Rattle.read.specs.Machine.{same, isOpen, firstGuard, anyOpen, allOpen, isDue, isLoad, noSlot, newSlot, locks, nulls, sized, glanced, judged, row, fresh}
+use Rattle.read.specs.Machine.{same, isOpen, firstGuard, anyOpen, allOpen, isDue, isLoad, noSlot, newSlot, locks, sized, orderly, judged, row, fresh}
 use Rattle.read.specs.Admission.{entry}
-use Rattle.read.specs.Handles.{given, smallest, handleSigns, freed, entered, wentOn, released, guardedCopy, handleOn}
+use Rattle.read.specs.Handles.{given, smallest, handleSigns, freed, entered, wentOn, released, guardedCopy, handleOn, createOn}
 use Rattle.read.specs.Calls.{Lent, slotAt, handleRule, createRule, viewRule, pairRule, startRule}
 use Rattle.read.proofs
 use Rattle.machine.proofs as whole
@@ -64,10 +64,10 @@ abbrev pub NoSlotPromise : Slot → Type 0
 NoSlotPromise = Keeps (typed tt (inner.no-slot .takes)) (inner.no-slot .post tt) tt
 
 abbrev pub NewSlotPromise : Slot → Type 0
-NewSlotPromise = Keeps (typed tt proofs.guards.new_slot.Kinds.ps) (proofs.guards.new_slot.Reads.Post tt) tt
+NewSlotPromise = Keeps (typed tt (inner.new-slot .takes)) (inner.new-slot .post tt) tt
 
-abbrev pub FreedPromise : (Slot → Slot) → Type 0
-FreedPromise = Keeps1 (typed tt proofs.guards.freed.Kinds.ps) (proofs.guards.freed.Reads.Post tt)
+abbrev pub FreedPromise : (ℕ → Slot → Slot) → Type 0
+FreedPromise = Keeps2 (typed tt proofs.guards.freed.Kinds.ps) (proofs.guards.freed.Reads.Post tt)
 
 abbrev pub EnteredPromise : (Control → Slot → Made) → Type 0
 EnteredPromise = Keeps2 (typed tt (inner.entered .takes)) (inner.entered .post tt)
@@ -96,11 +96,21 @@ GuardedCopyPromise f =
     Keeps (typed κ₁ proofs.handles.guarded_copy.Kinds.ps) (proofs.handles.guarded_copy.Reads.Post κ₁)
     (gs, (j, (ref (l .list), (ref (r .list), tt)))) (ref (f gs j (l .list) (r .list)))
 
-abbrev pub HandlePromise : (Control → Bool → Slot → Handle → List ℕ → List ℕ → Made) → Type 0
+abbrev pub HandlePromise : (Control → ℕ → Slot → Handle → List ℕ → List ℕ → Made) → Type 0
 HandlePromise f =
-    (c : Control) (own : Bool) (s : Slot) (h : Handle) (l r : Words) →
+    (c : Control) (i : ℕ) (s : Slot) (h : Handle) (l r : Words) →
     Keeps (typed κ₁ proofs.handles.handle.Kinds.ps) (proofs.handles.handle.Reads.Post κ₁)
-    (c, (own, (s, (h, (ref (l .list), (ref (r .list), tt)))))) (f c own s h (l .list) (r .list))
+    (c, (i, (s, (h, (ref (l .list), (ref (r .list), tt)))))) (f c i s h (l .list) (r .list))
+
+-- ---- create, on the slot that is first
+
+abbrev pub CreateOnPromise : (Control → Slot → Made) → Type 0
+CreateOnPromise = Keeps2 (typed tt proofs.handles.create.Kinds.ps) (proofs.handles.create.Reads.Post tt)
+
+-- ---- the order in which free slots are handed out
+
+abbrev pub OrderlyPromise : (State → Bool) → Type 0
+OrderlyPromise = Keeps1 (typed tt proofs.order.orderly.Kinds.ps) (proofs.order.orderly.Reads.Post tt)
 
 -- ---- the judgement
 
@@ -118,10 +128,10 @@ SizedPromise f =
     (l r g : Words) →
     Keeps (typed κ₃ (within.sized .takes)) (within.sized .post κ₃) (lends l r g) (f (l .list) (r .list) (g .list))
 
-abbrev pub JudgePromise : (Control → List ℕ → List ℕ → List ℕ → Verdict) → Type 0
+abbrev pub JudgePromise : (State → List ℕ → List ℕ → List ℕ → Verdict) → Type 0
 JudgePromise f =
-    (c : Control) (l r g : Words) →
-    Keeps (typed κ₃ (within.judge .takes)) (within.judge .post κ₃) (c, lends l r g) (f c (l .list) (r .list) (g .list))
+    (st : State) (l r g : Words) →
+    Keeps (typed κ₃ (within.judge .takes)) (within.judge .post κ₃) (st, lends l r g) (f st (l .list) (r .list) (g .list))
 
 -- ---- calls on the machine
 
@@ -192,6 +202,7 @@ pub kept :
     × AnyOpenPromise anyOpen × AllOpenPromise allOpen × IsDuePromise isDue × IsLoadPromise isLoad × NoSlotPromise noSlot
     × NewSlotPromise newSlot × FreedPromise freed × EnteredPromise entered × WentOnPromise (λ c s. wentOn c (s .due) s)
     × ReleasedPromise released × GivenPromise given × VerdictPromise (λ c own s h. smallest (handleSigns c own s h)) × GuardedCopyPromise guardedCopy × HandlePromise handleOn
+    × CreateOnPromise createOn × OrderlyPromise orderly
     × EitherPromise _||_ × LocksPromise locks × SamePromise same
     × SizedPromise sized × JudgePromise judged × StartPromise startRule × CreatePromise createRule
     × DropPromise (λ i. handleRule i Drop) × EnterPromise (λ i. handleRule i Enter) × GoOnPromise (λ i. handleRule i GoOn)

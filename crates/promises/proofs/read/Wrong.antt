@@ -1,10 +1,10 @@
 -- Wrong programs, as definitions on the rules' values, and for each a proof that the contract's promise (`Promises`) is false of it: one
 -- call, on values that the source's types have, where what the program does wrong is read off.
-use Prim.Native.Nat.{ℕ, _+_, _-_, _^_}
+use Prim.Native.Nat.{ℕ, zero, suc, _+_, _-_, _^_}
 use mathlib.Core.Path.{refl}
 use mathlib.Core.Bool.{Bool, true, false, not, _&&_, _||_}
 use mathlib.Core.List.{List, [], _∷_}
-use lib.Dec.{eqb, ltb}
+use lib.Dec.{eqb, ltb, leb}
 use lib.ListN.{length, getD, set, replicate}
 use Rattle.table.specs.Answers.{number}
 use Rattle.table.specs.Seek.{seek}
@@ -13,6 +13,7 @@ use Rattle.table.specs.declared.Answer.the-variants as answer
 use Rattle.read.specs.declared.Due.{Due}
 use Rattle.read.specs.declared.Due.the-variants.{Nothing, Load, Restore}
 use Rattle.read.specs.declared.Guard.{Guard}
+use Rattle.read.specs.declared.Link.the-variants.{Fresh, To}
 use Rattle.read.specs.declared.Slot.{Slot}
 use Rattle.read.specs.declared.Job.the-variants.{Publish}
 use Rattle.read.specs.declared.Phase.{Phase}
@@ -25,10 +26,10 @@ use Rattle.read.specs.declared.Verdict.{Verdict}
 use Rattle.read.specs.declared.Verdict.the-variants.{Admitted, Refused}
 use Rattle.read.specs.declared.Made.{Made}
 use Rattle.read.specs.declared.Reply.{Reply}
-use Rattle.read.specs.Machine.{standing, holding, openOn, withUse, withReading, slotCount, guardCount, logWords, shut, noGuards, isOpen, standsRight, putGuard, same, firstGuard, anyOpen, allOpen, isDue, isLoad, noSlot, newSlot, isGone, underway, wholeControl, glanced, judged, fresh, row}
+use Rattle.read.specs.Machine.{standing, holding, openOn, withUse, withReading, slotCount, guardCount, logWords, shut, noGuards, isOpen, standsRight, putGuard, same, firstGuard, anyOpen, allOpen, isDue, isLoad, noSlot, newSlot, isGone, underway, wholeControl, withFree, behind, freeBelow, orderly, firstUnlawful, glanced, judged, fresh, row}
 use Rattle.read.specs.Admission.{handleNumber, entry}
-use Rattle.read.specs.Handles.{mistimed, smallest, handleSigns, bumped, withDue, loaded, entered, wentOn, released, copyOf, bit}
-use Rattle.read.specs.Calls.{slotAt, withSlot, refusal, Lent, lent, handleReply, firstFree, handleRule, createRule, viewRule, pairRule, startRule}
+use Rattle.read.specs.Handles.{mistimed, smallest, handleSigns, madeOf, bumped, withDue, freed, loaded, entered, wentOn, released, copyOf, bit, handleOn, createOn}
+use Rattle.read.specs.Calls.{slotAt, withSlot, refusal, replyOf, Lent, lent, handleReply, handleRule, createRule, viewRule, pairRule, startRule}
 use Rattle.table.proofs.Computes.{apart}
 use Rattle.promises.proofs.Witnesses.{copy, none, seven, noLog, wordAt, itself}
 use Rattle.promises.proofs.Contracts.{Words, slice}
@@ -36,7 +37,7 @@ use Rattle.read.proofs.Computes.{rules}
 use Rattle.promises.proofs.read.Promises.{FreshPromise, SlotAtPromise, RowPromise, EntryPromise, FirstGuardPromise, IsOpenPromise}
 use Rattle.promises.proofs.read.Promises.{AnyOpenPromise, AllOpenPromise, IsDuePromise, IsLoadPromise, NoSlotPromise, NewSlotPromise}
 use Rattle.promises.proofs.read.Promises.{FreedPromise, EnteredPromise, WentOnPromise, ReleasedPromise, VerdictPromise, GuardedCopyPromise}
-use Rattle.promises.proofs.read.Promises.{HandlePromise, GivenPromise, EitherPromise, LocksPromise, SamePromise}
+use Rattle.promises.proofs.read.Promises.{HandlePromise, CreateOnPromise, OrderlyPromise, GivenPromise, EitherPromise, LocksPromise, SamePromise}
 use Rattle.promises.proofs.read.Promises.{SizedPromise, JudgePromise, StartPromise, CreatePromise, DropPromise, EnterPromise}
 use Rattle.promises.proofs.read.Promises.{GoOnPromise, WasDroppedPromise, OnHandlePromise, ReleasePromise, LookUpPromise, ViewPromise}
 use Rattle.promises.proofs.read.Promises.{PairPromise}
@@ -82,15 +83,23 @@ right = onRight ∷ shut ∷ shut ∷ shut ∷ []
 abbrev four : List Guard
 four = replicate guardCount onLeft
 
--- a slot in use, and a machine with it in slot 1
+-- a slot in use, and a machine with it in slot 1: slot 2 is handed out next
 abbrev slotWith : ℕ → List Guard → Due → Slot
 slotWith e gs d = withReading e gs d newSlot
 
-abbrev machine : Slot → State
-machine s = withSlot 1 s fresh
+abbrev first : ℕ → State → State
+first k st = stateOf (withFree k (st .control)) (st .slots) (st .snapshots)
 
+abbrev machine : Slot → State
+machine s = first 2 (withSlot 1 s fresh)
+
+-- the same order, and another control part
 abbrev controlled : Control → State → State
-controlled c st = stateOf c (st .slots) (st .snapshots)
+controlled c st = stateOf (withFree (st .control .free) c) (st .slots) (st .snapshots)
+
+-- slot 1 is in use, and 2 and 3 were freed, 3 at last
+abbrev twoFreed : State
+twoFreed = first 3 (withSlot 2 (freed 4 newSlot) (withSlot 3 (freed 2 newSlot) (machine newSlot)))
 
 abbrev snapped : List ℕ → State → State
 snapped es st = stateOf (st .control) (st .slots) es
@@ -247,18 +256,25 @@ epochOne-new-wrong h = apart (λ s. s .epoch) refl (h refl)
 -- ---- what a call does to its slot
 
 -- drop clears the epoch
-abbrev dropsEpoch : Slot → Slot
-dropsEpoch s = withReading 0 (s .guards) (s .due) (withUse false s)
+abbrev dropsEpoch : ℕ → Slot → Slot
+dropsEpoch k s = withReading 0 (s .guards) (s .due) (freed k s)
 
 dropsEpoch-wrong : FreedPromise dropsEpoch → ⊥
-dropsEpoch-wrong h = apart (λ s. s .epoch) refl (h (slotWith 4 noGuards Nothing) refl)
+dropsEpoch-wrong h = apart (λ s. s .epoch) refl (h 2 (slotWith 4 noGuards Nothing) refl)
 
 -- drop leaves the slot in use
-abbrev staysUsed : Slot → Slot
-staysUsed s = s
+abbrev staysUsed : ℕ → Slot → Slot
+staysUsed k s = withUse true (To k) s
 
 staysUsed-wrong : FreedPromise staysUsed → ⊥
-staysUsed-wrong h = apart (λ s. bit (s .used)) refl (h newSlot refl)
+staysUsed-wrong h = apart (λ s. bit (s .used)) refl (h 2 newSlot refl)
+
+-- drop forgets which slot was first
+abbrev forgetsFirst : ℕ → Slot → Slot
+forgetsFirst k s = withUse false (s .link) s
+
+forgetsFirst-wrong : FreedPromise forgetsFirst → ⊥
+forgetsFirst-wrong h = apart (λ s. behind 1 (s .link)) refl (h 5 newSlot refl)
 
 -- enter with no guard open adds to the epoch and loads at once, where the load is a step of its own
 abbrev loadsAtOnce : Control → Slot → Made
@@ -273,7 +289,7 @@ loadsAtOnce-wrong h = apart (λ m. opens 0 (m .slot)) refl (h idle newSlot refl)
 abbrev bumpsInside : Control → Slot → Made
 bumpsInside c s =
     let m = entered c s in
-    record { answer = m .answer; value = m .value; slot = withDue (bumped (s .epoch)) (m .slot .due) (m .slot) }
+    madeOf c (m .answer) (m .value) (withDue (bumped (s .epoch)) (m .slot .due) (m .slot))
 
 bumpsInside-wrong : EnteredPromise bumpsInside → ⊥
 unfolding rules
@@ -283,7 +299,7 @@ bumpsInside-wrong h = apart (λ m. m .slot .epoch) refl (h idle (slotWith 1 one 
 abbrev forgetsEpoch : Control → Slot → Made
 forgetsEpoch c s =
     let m = wentOn c (s .due) s in
-    record { answer = m .answer; value = m .value; slot = withDue (s .epoch) (m .slot .due) (m .slot) }
+    madeOf c (m .answer) (m .value) (withDue (s .epoch) (m .slot .due) (m .slot))
 
 forgetsEpoch-wrong : WentOnPromise forgetsEpoch → ⊥
 unfolding rules
@@ -416,36 +432,144 @@ sumSized l r g = eqb (length l + length r + length g) (words + words + logWords)
 sumSized-wrong : SizedPromise sumSized → ⊥
 sumSized-wrong h = apart bit refl (h noLog none none refl)
 
+-- behind the glance another test
+abbrev judgeBy : (State → List ℕ → Bool) → State → List ℕ → List ℕ → List ℕ → Verdict
+judgeBy test st l r g =
+    elim (glanced (st .control) l r g)
+    [ Admitted ↦ elim (test st g) [ true ↦ Admitted | false ↦ Refused answer.Broken ] | Refused a ↦ Refused a ]
+
 -- a judgement that skips the log
-glanced-judge-wrong : JudgePromise glanced → ⊥
+abbrev skipsLog : State → List ℕ → List ℕ → List ℕ → Verdict
+skipsLog = judgeBy (λ st g. orderly st)
+
+skipsLog-judge-wrong : JudgePromise skipsLog → ⊥
 unfolding rules
-glanced-judge-wrong h = apart verdict refl (h unlawful none none noLog refl)
+skipsLog-judge-wrong h = apart verdict refl (h (controlled unlawful fresh) none none noLog refl)
+
+-- one that skips the order of the free slots
+abbrev skipsOrder : State → List ℕ → List ℕ → List ℕ → Verdict
+skipsOrder = judgeBy (λ st g. let n = st .control .length in leb n (firstUnlawful n g))
+
+skipsOrder-judge-wrong : JudgePromise skipsOrder → ⊥
+unfolding rules
+skipsOrder-judge-wrong h = apart verdict refl (h (first 2 fresh) none none noLog refl)
 
 -- broken is found before the length
-abbrev brokenFirst : (Control → List ℕ → List ℕ → List ℕ → Verdict) → Control → List ℕ → List ℕ → List ℕ → Verdict
-brokenFirst rule c l r g = elim (wholeControl c) [ true ↦ rule c l r g | false ↦ Refused answer.Broken ]
+abbrev brokenFirst : State → List ℕ → List ℕ → List ℕ → Verdict
+brokenFirst st l r g = elim (wholeControl (st .control)) [ true ↦ judged st l r g | false ↦ Refused answer.Broken ]
 
-brokenFirst-judge-wrong : JudgePromise (brokenFirst judged) → ⊥
+brokenFirst-judge-wrong : JudgePromise brokenFirst → ⊥
 unfolding rules
-brokenFirst-judge-wrong h = apart verdict refl (h broken none none noWords refl)
+brokenFirst-judge-wrong h = apart verdict refl (h (controlled broken fresh) none none noWords refl)
+
+-- ---- the order in which free slots are handed out
+
+-- a walk by what may stand in it, and by where it may end
+abbrev walkBy : (Slot → Bool) → (ℕ → Bool) → ℕ → List Slot → ℕ → Bool
+walkBy may end zero ss k = end k
+walkBy may end (suc n) ss k =
+    let s = getD ss k noSlot in
+    ltb k slotCount && (may s && walkBy may end n ss (behind k (s .link)))
+
+abbrev isFree : Slot → Bool
+isFree s = not (s .used)
+
+abbrev atEnd : ℕ → Bool
+atEnd k = eqb k slotCount
+
+-- one that ends as soon as it can
+abbrev endsSoon : ℕ → List Slot → ℕ → Bool
+endsSoon zero ss k = atEnd k
+endsSoon (suc n) ss k =
+    let s = getD ss k noSlot in
+    atEnd k || (ltb k slotCount && (isFree s && endsSoon n ss (behind k (s .link))))
+
+-- as far as there are free slots
+abbrev orderBy : (ℕ → List Slot → ℕ → Bool) → State → Bool
+orderBy walks st = walks (freeBelow slotCount (st .slots)) (st .slots) (st .control .free)
+
+-- a slot in use may come: slot 0 does, in the place of slot 1
+abbrev usedComes : State → Bool
+usedComes = orderBy (walkBy (λ s. true) atEnd)
+
+usedComes-wrong : OrderlyPromise usedComes → ⊥
+unfolding rules
+usedComes-wrong h = apart bit refl (h (first 0 (withSlot 0 (withUse true (To 2) newSlot) fresh)) refl)
+
+-- a slot may come twice: behind slot 2 slot 1 comes again
+abbrev comesTwice : State → Bool
+comesTwice = orderBy (walkBy isFree (λ k. true))
+
+comesTwice-wrong : OrderlyPromise comesTwice → ⊥
+unfolding rules
+comesTwice-wrong h = apart bit refl (h (withSlot 2 (freed 1 noSlot) fresh) refl)
+
+-- a free slot may be left out: slot 1 is
+abbrev leavesOut : State → Bool
+leavesOut = orderBy endsSoon
+
+leavesOut-wrong : OrderlyPromise leavesOut → ⊥
+unfolding rules
+leavesOut-wrong h = apart bit refl (h (first 2 fresh) refl)
 
 -- ---- a call on a handle, on its slot
 
 -- every call is refused
-abbrev refusesMade : Control → Bool → Slot → Handle → List ℕ → List ℕ → Made
-refusesMade c own s h l r = record { answer = answer.NotNow; value = 0; slot = s }
+abbrev refusesMade : Control → ℕ → Slot → Handle → List ℕ → List ℕ → Made
+refusesMade c i s h l r = madeOf c answer.NotNow 0 s
 
 refusesMade-wrong : HandlePromise refusesMade → ⊥
 unfolding rules
-refusesMade-wrong h = apart (λ m. number (m .answer)) refl (h idle false newSlot Enter none none refl)
+refusesMade-wrong h = apart (λ m. number (m .answer)) refl (h idle 1 newSlot Enter none none refl)
 
 -- every call is done, with nothing changed
-abbrev idlesMade : Control → Bool → Slot → Handle → List ℕ → List ℕ → Made
-idlesMade c own s h l r = record { answer = answer.Done; value = 0; slot = s }
+abbrev idlesMade : Control → ℕ → Slot → Handle → List ℕ → List ℕ → Made
+idlesMade c i s h l r = madeOf c answer.Done 0 s
 
 idlesMade-wrong : HandlePromise idlesMade → ⊥
 unfolding rules
-idlesMade-wrong h = apart (λ m. m .slot .epoch) refl (h idle false newSlot Enter none none refl)
+idlesMade-wrong h = apart (λ m. m .slot .epoch) refl (h idle 1 newSlot Enter none none refl)
+
+-- a slot that is dropped is not handed out next
+abbrev dropsUnlisted : Control → ℕ → Slot → Handle → List ℕ → List ℕ → Made
+dropsUnlisted c i s h l r = let m = handleOn c i s h l r in madeOf c (m .answer) (m .value) (m .slot)
+
+dropsUnlisted-wrong : HandlePromise dropsUnlisted → ⊥
+unfolding rules
+dropsUnlisted-wrong h = apart (λ m. m .free) refl (h idle 3 newSlot Drop none none refl)
+
+-- ---- create, on the slot that is first
+
+-- a slot that is handed out, with another record or another one behind it
+abbrev creating : (Slot → Slot) → (Control → Slot → ℕ) → Control → Slot → Made
+creating record-of next c s =
+    let m = createOn c s in
+    elim (eqb (number (m .answer)) 0)
+    [ true ↦ record { answer = m .answer; value = m .value; slot = record-of s; free = next c s } | false ↦ m ]
+
+-- the slot is handed out, and stays the first
+abbrev staysFirst : Control → Slot → Made
+staysFirst = creating (λ s. newSlot) (λ c s. c .free)
+
+staysFirst-wrong : CreateOnPromise staysFirst → ⊥
+unfolding rules
+staysFirst-wrong h = apart (λ m. m .free) refl (h idle noSlot refl)
+
+-- the old record's epoch is kept
+abbrev keepsEpoch : Control → Slot → Made
+keepsEpoch = creating (λ s. slotWith (s .epoch) noGuards Nothing) (λ c s. behind (c .free) (s .link))
+
+keepsEpoch-wrong : CreateOnPromise keepsEpoch → ⊥
+unfolding rules
+keepsEpoch-wrong h = apart (λ m. m .slot .epoch) refl (h idle (freed 2 (slotWith 4 noGuards Nothing)) refl)
+
+-- the next number comes behind every slot
+abbrev nextNumber : Control → Slot → Made
+nextNumber = creating (λ s. newSlot) (λ c s. suc (c .free))
+
+nextNumber-wrong : CreateOnPromise nextNumber → ⊥
+unfolding rules
+nextNumber-wrong h = apart (λ m. m .free) refl (h idle (freed 5 newSlot) refl)
 
 -- ---- calls on the machine
 
@@ -455,11 +579,11 @@ calling effect h i l r g st =
     let q = handleRule i h l r g st in
     let m = effect (st .control) (slotAt st i) l r in
     elim (eqb (number (q .answer)) 0 || eqb (number (q .answer)) 15)
-    [ true ↦ record { answer = m .answer; value = m .value; state = withSlot i (m .slot) st } | false ↦ q ]
+    [ true ↦ replyOf i m st | false ↦ q ]
 
 -- done, with this value, and nothing changed
 abbrev idling : (Control → ℕ) → Control → Slot → List ℕ → List ℕ → Made
-idling value c s l r = record { answer = answer.Done; value = value c; slot = s }
+idling value c s l r = madeOf c answer.Done (value c) s
 
 abbrev answerOf : Reply → ℕ
 answerOf q = number (q .answer)
@@ -482,13 +606,17 @@ refusesAll-wrong : OnHandlePromise refusesAll → ⊥
 unfolding rules
 refusesAll-wrong h = apart answerOf refl (h 1 Enter none none noLog (machine newSlot) refl)
 
--- the operations in the log are not judged, and all else is
-abbrev skipsLog : ℕ → Handle → List ℕ → List ℕ → List ℕ → State → Reply
-skipsLog i h l r g st = elim (glanced (st .control) l r g) [ Admitted ↦ handleReply i h l r st | Refused a ↦ refusal a st ]
+-- judged otherwise
+abbrev handlesBy : (State → List ℕ → List ℕ → List ℕ → Verdict) → ℕ → Handle → List ℕ → List ℕ → List ℕ → State → Reply
+handlesBy judge i h l r g st = elim (judge st l r g) [ Admitted ↦ handleReply i h l r st | Refused a ↦ refusal a st ]
 
-skipsLog-wrong : OnHandlePromise skipsLog → ⊥
+skipsLog-wrong : OnHandlePromise (handlesBy skipsLog) → ⊥
 unfolding rules
 skipsLog-wrong h = apart answerOf refl (h 1 Enter none none noLog (controlled unlawful (machine newSlot)) refl)
+
+skipsOrder-wrong : OnHandlePromise (handlesBy skipsOrder) → ⊥
+unfolding rules
+skipsOrder-wrong h = apart answerOf refl (h 1 Enter none none noLog (first 1 (machine newSlot)) refl)
 
 -- every call that is not refused is done, with nothing changed
 abbrev doesNothing : ℕ → Handle → List ℕ → List ℕ → List ℕ → State → Reply
@@ -500,8 +628,8 @@ doesNothing-wrong h = apart epochOf refl (h 1 Enter none none noLog (machine new
 
 -- drop
 
-abbrev dropping : (Slot → Slot) → ℕ → List ℕ → List ℕ → List ℕ → State → Reply
-dropping f = calling (λ c s l r. record { answer = answer.Done; value = 0; slot = f s }) Drop
+abbrev dropping : (ℕ → Slot → Slot) → ℕ → List ℕ → List ℕ → List ℕ → State → Reply
+dropping f i = calling (λ c s l r. record { answer = answer.Done; value = 0; slot = f (c .free) s; free = i }) Drop i
 
 drop-clears-wrong : DropPromise (dropping dropsEpoch) → ⊥
 unfolding rules
@@ -510,6 +638,15 @@ drop-clears-wrong h = apart epochOf refl (h 1 none none noLog (machine (slotWith
 drop-stays-wrong : DropPromise (dropping staysUsed) → ⊥
 unfolding rules
 drop-stays-wrong h = apart (λ q. bit (slotAt (q .state) 1 .used)) refl (h 1 none none noLog (machine newSlot) refl)
+
+drop-forgets-wrong : DropPromise (dropping forgetsFirst) → ⊥
+unfolding rules
+drop-forgets-wrong h = apart (λ q. behind 1 (slotAt (q .state) 1 .link)) refl (h 1 none none noLog twoFreed refl)
+
+-- the slot is not handed out next
+drop-unlisted-wrong : DropPromise (calling (λ c s l r. madeOf c answer.Done 0 (freed (c .free) s)) Drop) → ⊥
+unfolding rules
+drop-unlisted-wrong h = apart (λ q. q .state .control .free) refl (h 1 none none noLog (machine newSlot) refl)
 
 -- enter
 
@@ -535,7 +672,7 @@ goOn-idles-wrong h = apart openOf refl (h 1 none none noLog (machine (slotWith 1
 -- release
 
 abbrev releasing : (ℕ → Slot → Slot) → ℕ → ℕ → List ℕ → List ℕ → List ℕ → State → Reply
-releasing f i j = calling (λ c s l r. record { answer = answer.Done; value = 0; slot = f j s }) (Release j) i
+releasing f i j = calling (λ c s l r. madeOf c answer.Done 0 (f j s)) (Release j) i
 
 release-bumps-wrong : ReleasePromise (releasing bumpsEach) → ⊥
 unfolding rules
@@ -592,20 +729,25 @@ create-clears-wrong h =
     apart (λ q. getD (q .state .snapshots) 1 0) refl
     (h none none noLog (snapped (replicate slotCount 5) fresh) refl)
 
--- the lock does not matter
-abbrev createsLocked : List ℕ → List ℕ → List ℕ → State → Reply
-createsLocked l r g st =
-    let i = firstFree (st .slots) in
-    elim (judged (st .control) l r g) [
-      | Admitted ↦
-          elim (ltb i slotCount)
-          [ true ↦ record { answer = answer.Done; value = i; state = withSlot i newSlot st } | false ↦ refusal answer.SlotsFull st ]
-      | Refused a ↦ refusal a st
-    ]
+-- judged as the rule has it, and then made of another slot or by another control part
+abbrev creates : (State → ℕ) → (Control → Control) → List ℕ → List ℕ → List ℕ → State → Reply
+creates which f l r g st =
+    let i = which st in
+    elim (judged st l r g)
+    [ Admitted ↦ replyOf i (createOn (withFree i (f (st .control))) (slotAt st i)) st | Refused a ↦ refusal a st ]
 
-createsLocked-wrong : CreatePromise createsLocked → ⊥
+-- the lock does not matter
+createsLocked-wrong : CreatePromise (creates (λ st. st .control .free) (standing Idle Publish)) → ⊥
 unfolding rules
 createsLocked-wrong h = apart answerOf refl (h none none noLog (controlled polling fresh) refl)
+
+-- the lowest free slot is handed out, and not the one freed last
+abbrev lowest : State → ℕ
+lowest st = seek (λ i. not (slotAt st i .used)) 0 slotCount
+
+createsLowest-wrong : CreatePromise (creates lowest (λ c. c)) → ⊥
+unfolding rules
+createsLowest-wrong h = apart valueOf refl (h none none noLog twoFreed refl)
 
 -- no slot is handed out
 createNone-wrong : CreatePromise (λ l r g st. refusal answer.SlotsFull st) → ⊥

@@ -142,7 +142,7 @@ unfolding callOn callRule
 begin-leaves o st l r g =
     let at : Verdict → Lent Reply = λ v. elim v [ Admitted ↦ callOn (Open o) st l r g | Refused a ↦ lent (refusal a st) l r g ] in
     let by : (v : Verdict) → lent (at v .made) l r g ≡ at v = λ v. elim v [ Admitted ↦ refl | Refused a ↦ refl ] in
-    by (judged (st .control) l r g)
+    by (judged st l r g)
 
 pub kept :
     HoldsPromise holds × PlacePromise place × UnderwayPromise (λ c. underway (c .phase)) × AtPromise at

@@ -20,7 +20,7 @@ use Rattle.read.specs.declared.Verdict.{Verdict}
 use Rattle.read.specs.declared.Verdict.the-variants.{Admitted, Refused}
 use Rattle.read.specs.declared.State.{State}
 use Rattle.read.specs.declared.Reply.{Reply}
-use Rattle.read.specs.Machine.{standing, holding, freshControl, withReading, slotCount, logRoom, logWords, noGuards, noSlot, newSlot, underway, locks, nulls, judged, fresh, row, place}
+use Rattle.read.specs.Machine.{standing, holding, withFree, freshControl, withReading, slotCount, logRoom, logWords, noGuards, noSlot, newSlot, underway, locks, nulls, judged, fresh, row, place}
 use Rattle.read.specs.Handles.{smallest, freed, withDue, copyOf, bit}
 use Rattle.read.specs.Calls.{Lent, lent, slotAt, refusal}
 use Rattle.write.specs.declared.Moved.{Moved}
@@ -47,10 +47,11 @@ use Rattle.read.proofs.Cases.{stateOf, withLock}
 abbrev fitting : Phase → Job → Bool → Bool → ℕ → ℕ → Control
 fitting p j first second n s = holding false (nulls p) first second n s (standing p j freshControl)
 
--- the writer's own slot first, then this one and free ones
+-- the writer's own slot first, then this one and free ones; the first free one is handed out next
 abbrev with1 : Control → Slot → ℕ → State
 with1 c s e =
-    stateOf c (newSlot ∷ s ∷ replicate (slotCount - 2) noSlot) (0 ∷ e ∷ replicate (slotCount - 2) 0)
+    stateOf (withFree (elim (s .used) [ true ↦ 2 | false ↦ 1 ]) c)
+    (newSlot ∷ s ∷ replicate (slotCount - 2) noSlot) (0 ∷ e ∷ replicate (slotCount - 2) 0)
 
 -- a log of ADDs of 1 to these keys
 abbrev adds : List ℕ → List ℕ
@@ -87,7 +88,7 @@ snapped1 o = snapAt (o .made .state) 1
 
 -- judged as the rules have it, with another effect
 abbrev judging : Whole → Whole
-judging rule st l r g = elim (judged (st .control) l r g) [ Admitted ↦ rule st l r g | Refused a ↦ lent (refusal a st) l r g ]
+judging rule st l r g = elim (judged st l r g) [ Admitted ↦ rule st l r g | Refused a ↦ lent (refusal a st) l r g ]
 
 -- ---- holds
 
@@ -105,7 +106,7 @@ waitsForFree s e = eqb (e % 2) 1 && eqb e (s .epoch)
 
 waitsForFree-wrong : HoldsPromise waitsForFree → ⊥
 unfolding rules
-waitsForFree-wrong h = apart bit refl (h (freed inside) 1 refl)
+waitsForFree-wrong h = apart bit refl (h (freed 2 inside) 1 refl)
 
 -- an odd snapshot that is still the epoch passes
 abbrev passesOdd : Slot → ℕ → Bool
@@ -291,6 +292,31 @@ leavesCopy = but 12 (λ c s e l r g. lent (stepAt Finish c s e l r g .made) l r 
 leavesCopy-wrong : AdvancePromise leavesCopy → ⊥
 unfolding rules
 leavesCopy-wrong h = apart (λ o. wordAt 0 (o .right)) refl (h (fitting Finish TakeFirst false false 0 0) newSlot 0 seven seven noLog refl)
+
+-- a take that frees slot 0, and does not hand it out next
+abbrev finishForgets : Part
+finishForgets =
+    but 12
+    (λ c s e l r g.
+    let o = stepAt Finish c s e l r g in
+    let m = o .made in
+    lent (moved (withFree (c .free) (m .control)) (m .slot) e) (o .left) (o .right) (o .log))
+
+finishForgets-wrong : AdvancePromise finishForgets → ⊥
+unfolding rules
+finishForgets-wrong h = apart (λ o. o .made .control .free) refl (h (fitting Finish TakeFirst false false 0 0) newSlot 0 none none noLog refl)
+
+-- one that puts slot 0 in front though it is free already
+abbrev finishAgain : Part
+finishAgain =
+    but 12
+    (λ c s e l r g.
+    let o = stepAt Finish c s e l r g in
+    lent (moved (withFree 0 (o .made .control)) (freed (c .free) s) e) (o .left) (o .right) (o .log))
+
+finishAgain-wrong : AdvancePromise finishAgain → ⊥
+unfolding rules
+finishAgain-wrong h = apart (λ o. o .made .control .free) refl (h (fitting Finish TakeFirst false false 0 0) noSlot 0 none none noLog refl)
 
 -- a machine that answers a step, and changes nothing
 abbrev standsStill : Part
@@ -506,7 +532,7 @@ abbrev opens : Opening → (Control → Slot → ℕ → Moved) → Beginning
 opens o f st l r g =
     let c = st .control in
     let s = slotAt st 0 in
-    elim (judged c l r g) [ Admitted ↦ putBack 0 st (openBy f c s o c s (snapAt st 0)) | Refused a ↦ refusal a st ]
+    elim (judged st l r g) [ Admitted ↦ putBack 0 st (openBy f c s o c s (snapAt st 0)) | Refused a ↦ refusal a st ]
 
 -- after the first publish
 abbrev later : State

@@ -8,13 +8,15 @@ use Rattle.machine.proofs.reads.on_handle.Tie as tie
 
 returns : tie.Need-returns
 returns c =
-    let a = c .before .before .before .before .before .before .before .before .before .args in
-    c .refusal .ensures ∙ sym (call-refused (a .slot) (a .h) (a .left .now) (a .right .now) (a .st) (a .log .now) _ (sym (c .before .before .before .before .judge .ensures) ∙ c .before .before .v .given .1))
+    let judged = c .before .before .before .before in
+    let a = judged .before .before .before .before .args in
+    c .refusal .ensures ∙ sym (call-refused (a .slot) (a .h) (a .left .now) (a .right .now) (a .st) (a .log .now) _ (sym (judged .judge .ensures) ∙ c .before .before .v .given .1))
 
 returns-2 : tie.Need-returns-2
 returns-2 c =
-    let a = c .before .before .before .before .before .before .before .before .args in
-    c .handle-reply .ensures ∙ sym (call-judged (a .slot) (a .h) (a .left .now) (a .right .now) (a .st) (a .log .now) (sym (c .before .before .before .judge .ensures) ∙ c .before .enum-told .given .1))
+    let judged = c .before .before .before in
+    let a = judged .before .before .before .before .args in
+    c .handle-reply .ensures ∙ sym (call-judged (a .slot) (a .h) (a .left .now) (a .right .now) (a .st) (a .log .now) (sym (judged .judge .ensures) ∙ c .before .enum-told .given .1))
 
 pub on-handle-spec : {M : Type 1} → statement M
 on-handle-spec =

@@ -8,13 +8,15 @@ use Rattle.machine.proofs.reads.through.Tie as tie
 
 returns : tie.Need-returns
 returns c =
-    let a = c .before .before .before .before .before .before .before .before .args in
-    sym (through-refused (a .slot) (a .guard) (a .left .now) (a .right .now) (a .st) (a .log .now) _ (sym (c .before .before .before .judge .ensures) ∙ c .before .enum-told .given .1))
+    let judged = c .before .before .before in
+    let a = judged .before .before .before .before .args in
+    sym (through-refused (a .slot) (a .guard) (a .left .now) (a .right .now) (a .st) (a .log .now) _ (sym (judged .judge .ensures) ∙ c .before .enum-told .given .1))
 
 returns-2 : tie.Need-returns-2
 returns-2 c =
-    let a = c .before .before .before .before .before .before .before .before .args in
-    c .through-guard .ensures ∙ sym (through-judged (a .slot) (a .guard) (a .left .now) (a .right .now) (a .st) (a .log .now) (sym (c .before .before .before .judge .ensures) ∙ c .before .enum-told2 .given .1))
+    let judged = c .before .before .before in
+    let a = judged .before .before .before .before .args in
+    c .through-guard .ensures ∙ sym (through-judged (a .slot) (a .guard) (a .left .now) (a .right .now) (a .st) (a .log .now) (sym (judged .judge .ensures) ∙ c .before .enum-told2 .given .1))
 
 pub through-spec : {M : Type 1} → statement M
 through-spec =

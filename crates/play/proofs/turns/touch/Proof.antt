@@ -1,9 +1,8 @@
 -- What the call on the handle gives, where there is such a slot.
 use mathlib.Core.Path.{sym, ap, _∙_}
 use borrow.Author.Tests.{le-leb, lt-leb}
-use Rattle.read.specs.declared.Made.{Made}
 use Rattle.read.specs.Machine.{slotTotal}
-use Rattle.play.specs.Turns.{movedAs, touched}
+use Rattle.play.specs.Turns.{movedBy, touched}
 use native.Mathlib.Omega.{arith}
 use borrow.Author.Needs.{needs}
 use Rattle.table.proofs.Needs.{all2}
@@ -17,10 +16,10 @@ returns c =
 
 returns-2 : tie.Need-returns-2
 returns-2 c =
-    let a = c .before .before .before .before .before .before .args in
-    c .moved-as2 .ensures
-    ∙ ap (λ (m : Made). movedAs (m .answer) (m .value) (a .c) (m .slot)) (c .before .before .handle .ensures)
-    ∙ sym (rw (lt-leb slotTotal (a .i) (c .before .before .before .if1 .left), touched))
+    let a = c .before .before .before .before .before .args in
+    c .moved-by .ensures
+    ∙ ap (movedBy (a .c)) (c .before .handle .ensures)
+    ∙ sym (rw (lt-leb slotTotal (a .i) (c .before .before .if1 .left), touched))
 
 pub touch-spec : {M : Type 1} → statement M
 touch-spec =

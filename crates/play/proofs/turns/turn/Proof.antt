@@ -3,19 +3,19 @@ use mathlib.Core.Path.{sym, ap, _∙_}
 use Rattle.read.specs.Calls.{lent}
 use Rattle.write.specs.declared.Moved.{Moved}
 use Rattle.play.specs.declared.schedule.Act.{Act}
-use Rattle.play.specs.Turns.{meantAt, turnOn}
+use Rattle.play.specs.Turns.{meantAt, movedBy, turnOn}
 use native.Mathlib.Omega.{arith}
 use borrow.Author.Needs.{needs}
-use Rattle.table.proofs.Needs.{all3, all15}
+use Rattle.table.proofs.Needs.{all3, all16}
 use Rattle.play.proofs.turns.turn.Statement.{statement}
 use Rattle.play.proofs.turns.turn.Tie as tie
 
 returns : tie.Need-returns
 unfolding turnOn
 returns c =
-    let a = c .before .before .before .before .before .before .before .args in
-    ap (λ (x : Moved). lent x (a .left .now) (a .right .now) (a .log .now)) (c .create .ensures)
-    ∙ sym (ap (λ (k : Act). turnOn (meantAt (a .schedule .now) (a .at) k) (a .i) (a .c) (a .s) (a .left .now) (a .right .now) (a .log .now)) (c .before .enum-told .given .1))
+    let a = c .before .before .before .before .before .before .before .before .args in
+    ap (λ (x : Moved). lent x (a .left .now) (a .right .now) (a .log .now)) (c .moved-by .ensures ∙ ap (movedBy (a .c)) (c .before .create .ensures))
+    ∙ sym (ap (λ (k : Act). turnOn (meantAt (a .schedule .now) (a .at) k) (a .i) (a .c) (a .s) (a .left .now) (a .right .now) (a .log .now)) (c .before .before .enum-told .given .1))
 
 returns-2 : tie.Need-returns-2
 unfolding turnOn
@@ -62,4 +62,4 @@ returns-7 c =
 
 pub turn-spec : {M : Type 1} → statement M
 turn-spec =
-    tie.close (all3 (all3 (all15 tie.spec (omega arith) returns (λ c. search needs) (λ c. search needs) returns-2) (omega arith) returns-3) (omega arith) returns-4 returns-5 returns-6 returns-7)
+    tie.close (all3 (all3 (all16 tie.spec (omega arith) returns (λ c. search needs) (λ c. search needs) returns-2) (omega arith) returns-3) (omega arith) returns-4 returns-5 returns-6 returns-7)

@@ -1,7 +1,7 @@
 -- Each result is the rule's at the call that the match found.
 use mathlib.Core.Path.{sym, ap, _∙_}
 use native.Mathlib.Omega.{arith}
-use Rattle.table.proofs.Needs.{all13}
+use Rattle.table.proofs.Needs.{all16}
 use Rattle.read.specs.Handles.{handled}
 use Rattle.read.proofs.handles.act.Statement.{statement}
 use Rattle.read.proofs.handles.act.Tie as tie
@@ -10,38 +10,41 @@ returns : tie.Need-returns
 unfolding handled
 returns c =
     let a = c .before .before .before .before .before .args in
-    rw (c .freed .ensures) (sym (ap (λ h. handled (a .c) (a .s) h (a .left .now) (a .right .now)) (c .before .enum-told .given .1)))
+    rw (c .freed .ensures) (sym (ap (λ h. handled (a .c) (a .i) (a .s) h (a .left .now) (a .right .now)) (c .before .enum-told .given .1)))
 
 returns-2 : tie.Need-returns-2
 unfolding handled
 returns-2 c =
     let a = c .before .before .before .before .before .args in
-    c .entered .ensures ∙ sym (ap (λ h. handled (a .c) (a .s) h (a .left .now) (a .right .now)) (c .before .enum-told2 .given .1))
+    c .entered .ensures ∙ sym (ap (λ h. handled (a .c) (a .i) (a .s) h (a .left .now) (a .right .now)) (c .before .enum-told2 .given .1))
 
 returns-3 : tie.Need-returns-3
 unfolding handled
 returns-3 c =
     let a = c .before .before .before .before .before .args in
-    c .went-on .ensures ∙ sym (ap (λ h. handled (a .c) (a .s) h (a .left .now) (a .right .now)) (c .before .enum-told3 .given .1))
+    c .went-on .ensures ∙ sym (ap (λ h. handled (a .c) (a .i) (a .s) h (a .left .now) (a .right .now)) (c .before .enum-told3 .given .1))
 
 returns-4 : tie.Need-returns-4
 unfolding handled
 returns-4 c =
-    let a = c .before .before .before .before .before .before .args in
-    rw (c .released .ensures) (sym (ap (λ h. handled (a .c) (a .s) h (a .left .now) (a .right .now)) (c .before .before .h .given .1)))
+    let told = c .before .before .before in
+    let a = told .before .before .before .before .args in
+    c .made-of .ensures ∙ rw (c .before .released .ensures) (sym (ap (λ h. handled (a .c) (a .i) (a .s) h (a .left .now) (a .right .now)) (told .h .given .1)))
 
 returns-5 : tie.Need-returns-5
 unfolding handled
 returns-5 c =
-    let a = c .before .before .before .before .before .before .before .before .args in
-    rw (c .count .ensures, c .before .guarded-copy .ensures) (sym (ap (λ h. handled (a .c) (a .s) h (a .left .now) (a .right .now)) (c .before .before .before .before .h2 .given .1)))
+    let told = c .before .before .before .before .before in
+    let a = told .before .before .before .before .args in
+    c .made-of2 .ensures ∙ rw (c .before .count .ensures, c .before .before .guarded-copy .ensures) (sym (ap (λ h. handled (a .c) (a .i) (a .s) h (a .left .now) (a .right .now)) (told .h2 .given .1)))
 
 returns-6 : tie.Need-returns-6
 unfolding handled
 returns-6 c =
-    let a = c .before .before .before .before .before .args in
-    rw (c .bit .ensures) (sym (ap (λ h. handled (a .c) (a .s) h (a .left .now) (a .right .now)) (c .before .enum-told4 .given .1)))
+    let told = c .before .before in
+    let a = told .before .before .before .before .args in
+    c .made-of3 .ensures ∙ rw (c .before .bit .ensures) (sym (ap (λ h. handled (a .c) (a .i) (a .s) h (a .left .now) (a .right .now)) (told .enum-told4 .given .1)))
 
 pub act-spec : {M : Type 1} → statement M
 act-spec =
-    tie.close (all13 tie.spec (omega arith) returns returns-2 returns-3 returns-4 returns-5 returns-6)
+    tie.close (all16 tie.spec (omega arith) returns returns-2 returns-3 returns-4 returns-5 returns-6)

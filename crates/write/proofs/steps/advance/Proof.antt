@@ -14,7 +14,7 @@ returns-5 c =
 returns-13 : tie.Need-returns-13
 returns-13 c =
     let a = c .before .before .before .before .before .before .before .before .before .before .before .before .before .before .before .before .before .before .before .args in
-    step-finish (a .c) (a .s) (a .e) (a .left .now) (a .right .now) (a .log .now) (c .before .before .before .before .before .before .before .before .before .before .before .before .before .before .enum-told8 .given .1) (c .before .before .with-log .ensures) (c .before .freed .ensures) (c .moved-to8 .ensures) (c .before .before .before .before .before .before .before .before .before .before .before .erase .ensures) (c .before .before .before .before .before .zero .ensures)
+    step-finish (a .c) (a .s) (a .e) (a .left .now) (a .right .now) (a .log .now) (c .before .before .before .before .before .before .before .before .before .before .before .before .before .before .enum-told8 .given .1) (c .before .finished .ensures) (c .before .before .vacated .ensures) (c .moved-to8 .ensures) (c .before .before .before .before .before .before .before .before .before .before .before .erase .ensures) (c .before .before .before .before .before .zero .ensures)
 
 pub advance-spec : {M : Type 1} → statement M
 advance-spec =

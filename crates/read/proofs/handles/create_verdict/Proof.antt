@@ -3,10 +3,10 @@ use mathlib.Core.Path.{refl}
 use native.Mathlib.Omega.{arith}
 use Rattle.table.proofs.Needs.{all3}
 use lib.Dec.{eqb}
 use Rattle.read.specs.Machine.{slotCount}
 use Rattle.read.proofs.Verdicts.{push, first-none}
-use Rattle.machine.proofs.reads.create_verdict.Statement.{statement}
-use Rattle.machine.proofs.reads.create_verdict.Tie as tie
+use Rattle.read.proofs.handles.create_verdict.Statement.{statement}
+use Rattle.read.proofs.handles.create_verdict.Tie as tie
 
 returns : tie.Need-returns
 unfolding slotCount
