@@ -63,7 +63,8 @@ fn seven(reader: &ReadHandle<Counts>) -> Option<u64> {
     reader.enter()?.pairs.get(&7).copied()
 }
 
-fn ours(player: Player, calls: &[(Record, Reply)]) -> Result<(), String> {
+/// Our player gives these replies.
+pub fn ours(player: Player, calls: &[(Record, Reply)]) -> Result<(), String> {
     let records: Vec<Record> = calls.iter().map(|&(record, _)| record).collect();
     let mut out = vec![0; records.len() * ENTRY];
     let played = player(&schedule(&records), &mut out);
@@ -92,7 +93,7 @@ const PUBLISH: Record = Record::of(call::PUBLISH);
 const TAKE: Record = Record::of(call::TAKE);
 const RUN: Record = Record::of(call::RUN);
 
-const fn done(value: u64) -> Reply {
+pub const fn done(value: u64) -> Reply {
     Reply { answer: DONE, value }
 }
 

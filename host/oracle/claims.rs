@@ -1,7 +1,10 @@
 //! What docs/DIFFERENCES.md says of the crate and marks as run, where its comments say something else: on one thread.
 //! What takes two is in blocking.rs.
 
+use crate::blocking::{done, ours};
 use crate::world::{work_done, Change, Counts, World};
+use common::answer::{DECLINED, DONE};
+use common::{call, steps, Player, Record, Reply};
 use left_right::Absorb;
 use std::cell::Cell;
 use std::collections::VecDeque;
@@ -46,7 +49,7 @@ fn second_from_the_start() -> Result<(), String> {
 /// Appends while `first` are in no log, and flush does not see them.
 fn first_publishes() -> Result<(), String> {
     let mut world = World::new(false);
-    world.create(1);
+    world.create();
     world.append(ADD);
     holds(work_done().second == 1, "an append while `first` is applied at once, as a second absorption")?;
     holds(world.shown().unwrap().log.is_empty(), "an append while `first` is not logged")?;
@@ -94,7 +97,7 @@ fn batches() -> Result<(), String> {
 /// Publish is not the only call that makes appends visible.
 fn exposed() -> Result<(), String> {
     let mut world = World::new(false);
-    world.create(1);
+    world.create();
     world.append(ADD);
     holds(world.try_publish(), "a try while `first` publishes")?;
     world.enter(1);
@@ -130,7 +133,7 @@ fn taken() -> Result<(), String> {
 
 fn take_leaves_handles() -> Result<(), String> {
     let mut world = World::new(false);
-    world.create(1);
+    world.create();
     world.take();
     holds(world.was_dropped(1) && world.enter(1).is_none(), "take did not wait for the handle, only for guards")
 }
@@ -138,7 +141,7 @@ fn take_leaves_handles() -> Result<(), String> {
 /// A world whose slot 1 was inside at the last swap, and is not now.
 fn left() -> World {
     let mut world = World::new(false);
-    world.create(1);
+    world.create();
     world.enter(1);
     world.publish();
     world.release(1, 0);
@@ -154,7 +157,7 @@ fn later_handles() -> Result<(), String> {
     for inside in [false, true] {
         let mut world = left();
         world.drop_handle(1);
-        world.create(1);
+        world.create();
         if inside {
             world.enter(1);
         }
@@ -166,38 +169,65 @@ fn later_handles() -> Result<(), String> {
 /// Numbers that were not read at the last swap.
 fn older_numbers() -> Result<(), String> {
     let mut world = World::new(false);
-    world.create(1);
+    world.create();
     world.enter(1);
     holds(world.try_publish(), "before the first swap a try passes a reader that is inside")?;
 
     let mut world = World::new(false);
     world.publish();
-    world.create(1);
+    world.create();
     world.enter(1);
     holds(world.try_publish(), "a number that nobody read is even, and whoever is inside is passed")?;
 
     let mut world = left();
     world.drop_handle(1);
     world.publish();
-    world.create(1);
+    world.create();
     world.enter(1);
     holds(!world.try_publish(), "a number of the swap before the last, from a handle that is gone, is waited for")
 }
 
-/// Two freed slots: the key freed last is handed out first. By the scope this handle would be in slot 1, whose snapshot
-/// is odd, and the try would be declined.
-fn two_freed_slots() -> Result<(), String> {
-    let mut world = World::new(false);
-    world.create(1);
-    world.create(2);
-    world.enter(1);
-    world.publish();
-    world.release(1, 0);
-    world.drop_handle(1);
-    world.drop_handle(2);
-    world.create(1);
-    world.enter(1);
-    holds(world.try_publish(), "with two freed slots the crate's slab hands out the one freed last")
+/// Two freed slots, of which one has an odd snapshot: a handle in it is waited for once it is inside. Only the one freed
+/// last is handed out.
+fn two_freed_slots(player: Player) -> Result<(), String> {
+    for (odd, answer, value) in [(1, DONE, steps::PUBLISH + 1), (2, DECLINED, 2)] {
+        let mut world = World::new(false);
+        world.create();
+        world.create();
+        world.enter(odd);
+        world.publish();
+        world.release(odd, 0);
+        world.drop_handle(1);
+        world.drop_handle(2);
+        holds(world.create() == 2, "slab hands out the key freed last")?;
+        world.enter(2);
+        holds(
+            world.try_publish() == (answer == DONE),
+            "with two freed slots the crate's slab hands out the one freed last",
+        )?;
+
+        let on = |call| Record::on(odd as u8, call);
+        ours(
+            player,
+            &[
+                (Record::of(call::CREATE), done(1)),
+                (Record::of(call::CREATE), done(2)),
+                (on(call::ENTER), done(0)),
+                (on(call::GO_ON), done(0)),
+                (Record::of(call::PUBLISH), done(0)),
+                (Record::of(call::RUN), done(steps::FIRST_PUBLISH)),
+                (on(call::RELEASE), done(0)),
+                (Record::on(1, call::DROP), done(0)),
+                (Record::on(2, call::DROP), done(0)),
+                (Record::of(call::CREATE), done(2)),
+                (Record::on(2, call::ENTER), done(0)),
+                (Record::on(2, call::GO_ON), done(0)),
+                (Record::of(call::TRY), done(0)),
+                (Record::of(call::RUN), Reply { answer, value }),
+            ],
+        )?;
+    }
+    Ok(())
 }
 
 /// While `first`, the other copy is behind and not ahead.
@@ -223,7 +253,7 @@ fn forgotten_guard() -> Result<(), String> {
     holds(dropped.is_err(), "a handle with a forgotten guard panics when it is dropped")
 }
 
-pub fn all() -> Result<String, String> {
+pub fn all(player: Player) -> Result<String, String> {
     second_from_the_start()?;
     first_publishes()?;
     batches()?;
@@ -233,7 +263,7 @@ pub fn all() -> Result<String, String> {
     leaving_is_enough()?;
     later_handles()?;
     older_numbers()?;
-    two_freed_slots()?;
+    two_freed_slots(player)?;
     other_copy()?;
     empty_drain()?;
     forgotten_guard()?;

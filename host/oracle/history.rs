@@ -20,7 +20,8 @@ pub enum Call {
     Publish,
     Try,
     Flush,
-    Take,
+    /// With slots that are dropped meanwhile: at which of the places where the lock is free, and which slot.
+    Take(Vec<(usize, usize)>),
     /// No call: compares the whole table behind a guard, and looks up each of its keys.
     Table(usize, usize),
     /// No call: compares what the crate's Debug shows of its inside.
@@ -45,6 +46,7 @@ mod number {
     pub const INSIDE: usize = 13;
 }
 
+pub const CREATES: usize = number::CREATE;
 pub const CALLS: usize = number::INSIDE + 1;
 pub const NAMES: [&str; CALLS] = [
     "creates",
@@ -77,7 +79,7 @@ impl Call {
             Call::Publish => number::PUBLISH,
             Call::Try => number::TRY,
             Call::Flush => number::FLUSH,
-            Call::Take => number::TAKE,
+            Call::Take(..) => number::TAKE,
             Call::Table(..) => number::TABLE,
             Call::Inside => number::INSIDE,
         }
@@ -99,6 +101,12 @@ pub struct Met {
     pub batches_while_first: u64,
     pub full_batches: u64,
     pub records: u64,
+    /// Creates with several slots freed, of which one is handed out.
+    pub chosen: u64,
+    pub dropped_within_takes: u64,
+    /// The most slots that were freed at once, and the histories in which there were several.
+    pub most_freed: usize,
+    pub several_freed: u64,
 }
 
 impl Met {
@@ -117,6 +125,10 @@ impl Met {
         self.batches_while_first += other.batches_while_first;
         self.full_batches += other.full_batches;
         self.records += other.records;
+        self.chosen += other.chosen;
+        self.dropped_within_takes += other.dropped_within_takes;
+        self.most_freed = self.most_freed.max(other.most_freed);
+        self.several_freed += (other.most_freed > 1) as u64;
     }
 }
 
@@ -176,6 +188,16 @@ impl Run {
         self.used(slot) && self.machine.slots[slot].guards[guard].is_some()
     }
 
+    /// An open one, if there is any.
+    fn first_guard(&self, slot: usize) -> usize {
+        (0..GUARDS).find(|&guard| self.guarded(slot, guard)).unwrap_or(0)
+    }
+
+    /// A handle, not the writer's own, that was never inside.
+    fn new_handle(&self, slot: usize) -> bool {
+        self.used(slot) && self.machine.slots[slot].epoch == 0 && (slot != 0 || self.gone())
+    }
+
     fn gone(&self) -> bool {
         self.machine.phase == Phase::Gone
     }
@@ -192,10 +214,14 @@ impl Run {
         })
     }
 
-    /// Slots freed and not handed out again. The order in which the crate's slab reuses its keys is not among our
-    /// papers; with one at most, there is no order.
+    /// Slots freed and not handed out again.
     fn freed(&self) -> usize {
-        (1..=self.highest).filter(|&slot| !self.used(slot)).count()
+        (0..=self.highest).filter(|&slot| !self.used(slot)).count()
+    }
+
+    /// Not slot 0, as long as it is the writer's own.
+    fn droppable(&self, slot: usize) -> bool {
+        self.used(slot) && self.guards(slot) == 0 && (self.gone() || slot != 0)
     }
 
     /// Can the crate make this call on one thread, and our machine too? A history leaves out what neither or only one
@@ -204,10 +230,7 @@ impl Run {
         let room = |operations| self.machine.first || self.machine.log.len() + operations <= LOG_ROOM;
         match *call {
             Call::Create => (0..SLOTS).any(|slot| !self.used(slot)),
-            Call::Drop(slot) => {
-                let free = self.used(slot) && self.guards(slot) == 0;
-                free && (self.gone() || (slot != 0 && self.freed() == 0))
-            }
+            Call::Drop(slot) => self.droppable(slot),
             Call::Enter(slot) => self.used(slot) && self.guards(slot) < GUARDS,
             Call::Release(slot, guard) | Call::LookUp(slot, guard, _) | Call::Table(slot, guard) => {
                 self.guarded(slot, guard)
@@ -221,7 +244,11 @@ impl Run {
                 self.writer_free() && (idle || self.waits_at().is_none())
             }
             Call::Try => self.writer_free(),
-            Call::Take => !self.gone() && (0..SLOTS).all(|slot| self.guards(slot) == 0),
+            Call::Take(ref drops) => {
+                let once = |at: usize| drops[..at].iter().all(|&(_, slot)| slot != drops[at].1);
+                let alone = (0..SLOTS).all(|slot| self.guards(slot) == 0);
+                !self.gone() && alone && (0..drops.len()).all(|at| self.droppable(drops[at].1) && once(at))
+            }
             Call::Inside => true,
         }
     }
@@ -265,6 +292,11 @@ impl Run {
     pub fn make(&mut self, call: Call) -> Outcome {
         self.met.calls[call.number()] += 1;
         self.try_make(call)?;
+        self.met.most_freed = self.met.most_freed.max(self.freed());
+        self.agreed()
+    }
+
+    fn agreed(&mut self) -> Outcome {
         self.apart.take().map_or(Ok(()), Err)
     }
 
@@ -277,8 +309,8 @@ impl Run {
     fn try_make(&mut self, call: Call) -> Outcome {
         match call {
             Call::Create => {
-                let slot = (0..SLOTS).find(|&slot| !self.used(slot)).unwrap();
-                self.world.create(slot);
+                self.met.chosen += (self.freed() > 1) as u64;
+                let slot = self.world.create();
                 self.highest = self.highest.max(slot);
                 self.created += 1;
                 self.handle[slot] = self.created;
@@ -353,7 +385,7 @@ impl Run {
                     }
                 }
             }
-            Call::Take => self.take()?,
+            Call::Take(drops) => self.take(&drops)?,
             Call::Table(slot, guard) => self.table(slot, guard)?,
             Call::Inside => self.inside()?,
         }
@@ -409,12 +441,16 @@ impl Run {
         self.swapped();
     }
 
-    fn take(&mut self) -> Outcome {
+    fn take(&mut self, drops: &[(usize, usize)]) -> Outcome {
         // How often take publishes is not seen from outside; what decides it is.
         let shown = self.world.shown().unwrap();
         let pending = self.world.has_pending();
         let idle = !shown.first && shown.log.is_empty();
         let publishes = if idle { 0 } else { 1 + pending as u64 };
+        // Nothing comes between on one thread, so these go before. Either way they are freed before the writer's own.
+        for &(_, slot) in drops {
+            self.world.drop_handle(slot);
+        }
         work_done();
         let ended = self.world.take();
         let work = work_done();
@@ -422,6 +458,8 @@ impl Run {
         let applied = work.synchronised + work.second + work.first;
         let steps = publishes * (1 + polls + steps::FIRST_PUBLISH) + applied + steps::TAKE_END;
         self.ours(Record::of(call::TAKE), DONE, Some(0));
+        // The lock is free before each publish, before null and before the lock step.
+        let before = self.drop_within(drops, publishes as usize + 1)?;
         // Ours is run up to its last step, to see the copy that this one lets go of.
         let mut made = 0;
         while self.machine.phase != Phase::Finish {
@@ -436,8 +474,24 @@ impl Run {
         same("the copy that take hands over", Some(&ended.handed), self.machine.copies[kept].view())?;
         let last = self.machine.run();
         let whole = Reply { answer: last.answer, value: made + last.value };
-        self.both(&[Record::of(call::RUN)], (DONE, Some(steps)), whole);
+        self.both(&[Record::of(call::RUN)], (DONE, Some(steps - before)), whole);
         Ok(())
+    }
+
+    /// Goes on with our take to where each of these is dropped, and says how many steps that took.
+    fn drop_within(&mut self, drops: &[(usize, usize)], last: usize) -> Result<u64, String> {
+        let (mut place, mut steps) = (0, 0);
+        for &(at, slot) in drops {
+            while place < at.min(last) {
+                self.ours(Record::of(call::STEP), DONE, Some(0));
+                self.agreed()?;
+                steps += 1;
+                place += !self.machine.locked as usize;
+            }
+            self.ours(Record::on(slot as u8, call::DROP), DONE, Some(0));
+            self.met.dropped_within_takes += 1;
+        }
+        Ok(steps)
     }
 
     fn table(&mut self, slot: usize, guard: usize) -> Outcome {
@@ -574,15 +628,15 @@ fn unfold(choose: &mut Random, run: &mut Run) -> Outcome {
         }
         Ok(admitted)
     };
-    let plan = Plan::new(choose);
+    let mut plan = Plan::new(choose);
     let mut left = plan.calls;
     while left > 0 {
         left -= 1;
         let call = plan.next(choose, run);
-        let takes = call == Call::Take;
+        let takes = matches!(call, Call::Take(_));
         if next(run, call)? && takes {
             // Not much can happen after it.
-            left = left.min(10);
+            left = left.min(if plan.churns { 2 * SLOTS } else { 10 });
         }
     }
     // What a new guard shows, and what every open one still does.
@@ -599,6 +653,16 @@ fn unfold(choose: &mut Random, run: &mut Run) -> Outcome {
     Ok(())
 }
 
+/// One of the slots that are so, or slot 0.
+fn one(choose: &mut Random, so: impl Fn(usize) -> bool) -> usize {
+    let slots: Vec<usize> = (0..SLOTS).filter(|&slot| so(slot)).collect();
+    if slots.is_empty() {
+        0
+    } else {
+        choose.pick(&slots)
+    }
+}
+
 /// What a history is like. Each one prefers some calls and does without others, since a history that does a little of
 /// everything never gets far in one direction.
 struct Plan {
@@ -607,6 +671,9 @@ struct Plan {
     keys: u64,
     spread: u64,
     large: bool,
+    /// Handles come and go in rounds, of which this is the stage.
+    churns: bool,
+    stage: usize,
     weights: [usize; CALLS],
 }
 
@@ -630,6 +697,8 @@ impl Plan {
             keys: choose.pick(&[1, 2, 4, 9]),
             spread: choose.pick(&[1, 1, u64::MAX / 9]),
             large: choose.chance(1, 3),
+            churns: false,
+            stage: 0,
             weights,
         };
         if choose.chance(1, 50) {
@@ -640,15 +709,38 @@ impl Plan {
             plan.weights = plan.weights.map(|weight| weight.min(2));
             plan.weights[number::APPEND] = choose.pick(&[60, 600]);
             plan.weights[number::TAKE] = 0;
+        } else if choose.chance(1, 3) {
+            plan.churns = true;
+            plan.weights = plan.weights.map(|weight| weight.min(1));
+            plan.weights[number::TAKE] = choose.pick(&[0, 2]);
         }
         plan
+    }
+
+    /// Handles come, go inside, see a publish, leave and are dropped, a few of them each time. So several slots are freed at
+    /// once, and the next handles in them meet the numbers that the last ones left.
+    fn churn(&mut self, choose: &mut Random, run: &Run) -> Call {
+        if choose.chance(1, 3) {
+            self.stage += 1;
+        }
+        match self.stage % 5 {
+            0 => Call::Create,
+            1 => Call::Enter(one(choose, |slot| run.new_handle(slot))),
+            2 if choose.chance(1, 2) => Call::Publish,
+            2 => Call::Try,
+            3 => {
+                let slot = one(choose, |slot| run.guards(slot) > 0);
+                Call::Release(slot, run.first_guard(slot))
+            }
+            _ => Call::Drop(one(choose, |slot| run.droppable(slot))),
+        }
     }
 
     fn key(&self, choose: &mut Random) -> u64 {
         (choose.word() % self.keys).wrapping_mul(self.spread)
     }
 
-    fn next(&self, choose: &mut Random, run: &Run) -> Call {
+    fn next(&mut self, choose: &mut Random, run: &Run) -> Call {
         let used: Vec<usize> = (0..SLOTS).filter(|&slot| run.used(slot)).collect();
         let open: Vec<(usize, usize)> = (0..SLOTS)
             .flat_map(|slot| (0..GUARDS).map(move |guard| (slot, guard)))
@@ -660,8 +752,9 @@ impl Plan {
             slot = choose.pick(&used);
         }
         let (inside, guard) = if open.is_empty() { (0, 0) } else { choose.pick(&open) };
-        let freed = run.freed() > 0 && choose.chance(1, 2);
+        let freed = !self.churns && run.freed() > 0 && choose.chance(1, 2);
         let call = match choose.weighed(&self.weights) {
+            _ if self.churns && choose.chance(3, 4) => self.churn(choose, run),
             number::DROP | number::ENTER if freed => Call::Create,
             number::CREATE if used.len() > self.slots && !freed && !choose.chance(1, 8) => Call::Enter(slot),
             number::CREATE => Call::Create,
@@ -675,7 +768,7 @@ impl Plan {
             number::PUBLISH => Call::Publish,
             number::TRY => Call::Try,
             number::FLUSH => Call::Flush,
-            number::TAKE => Call::Take,
+            number::TAKE => Call::Take(self.drops(choose, run)),
             number::TABLE => Call::Table(inside, guard),
             _ => Call::Inside,
         };
@@ -684,12 +777,21 @@ impl Plan {
             Call::Append(_) | Call::Batch(_) | Call::Publish | Call::Try | Call::Flush
                 if run.guards(0) > 0 && !run.gone() =>
             {
-                Call::Release(0, (0..GUARDS).find(|&guard| run.guarded(0, guard)).unwrap())
+                Call::Release(0, run.first_guard(0))
             }
             Call::Publish | Call::Flush if !run.admits(&call) => Call::Try,
-            Call::Take if !run.admits(&call) => Call::Release(inside, guard),
+            Call::Take(_) if !run.admits(&call) => Call::Release(inside, guard),
             _ => call,
         }
+    }
+
+    /// Some handles, in any order, for a take that has them dropped meanwhile.
+    fn drops(&self, choose: &mut Random, run: &Run) -> Vec<(usize, usize)> {
+        let mut slots: Vec<usize> = (0..SLOTS).filter(|&slot| run.droppable(slot)).collect();
+        let count = if self.churns { choose.below(4).min(slots.len()) } else { 0 };
+        let mut places: Vec<usize> = (0..count).map(|_| choose.below(4)).collect();
+        places.sort();
+        places.into_iter().map(|place| (place, slots.swap_remove(choose.below(slots.len())))).collect()
     }
 
     /// From none to as many as there may be, and often as many as the log has room for.
@@ -729,6 +831,11 @@ pub fn simpler(call: &Call) -> Vec<Call> {
         }
         Call::LookUp(slot, guard, _) => vec![Call::LookUp(slot, guard, 1), Call::LookUp(slot, guard, 0)],
         Call::Flush => vec![Call::Publish],
+        Call::Drop(slot) => (1..slot).map(Call::Drop).collect(),
+        Call::Take(ref drops) => {
+            let one = drops.iter().map(|&drop| Call::Take(vec![drop]));
+            [Call::Take(Vec::new())].into_iter().chain(one).collect()
+        }
         _ => Vec::new(),
     }
 }

@@ -16,7 +16,7 @@ mod sample;
 mod world;
 
 use common::{Player, BATCH_ROOM};
-use history::{operations, random, replay, simpler, with_operations, Call, Met, NAMES, UNDER_WAY};
+use history::{operations, random, replay, simpler, with_operations, Call, Met, CREATES, NAMES, UNDER_WAY};
 use std::panic::{catch_unwind, set_hook, AssertUnwindSafe};
 use std::process::{exit, ExitCode};
 use std::sync::atomic::{AtomicU64, Ordering};
@@ -75,7 +75,7 @@ fn report(player: Player) {
 
 /// What is said of the crate. Where that is not so, a call may panic, or wait for ever.
 fn said(player: Player) -> Result<String, String> {
-    let back = blocking::apart(move || Ok(claims::all()? + &blocking::all(player)?));
+    let back = blocking::apart(move || Ok(claims::all(player)? + &blocking::all(player)?));
     let ended = back.recv_timeout(Duration::from_secs(120));
     ended.unwrap_or_else(|what| Err(format!("what is said of the crate did not end: {what}")))
 }
@@ -128,6 +128,15 @@ fn main() -> ExitCode {
         met.batches_while_first,
         met.empty_batches,
         met.full_batches
+    );
+    println!(
+        "{} creates gave slab's key, {} of these with several slots freed; {} histories had several freed at once, at most \
+         {}; {} slots were dropped while a take was under way",
+        met.calls[CREATES],
+        met.chosen,
+        met.several_freed,
+        met.most_freed,
+        met.dropped_within_takes
     );
 
     // From here on threads wait on purpose, with limits of their own; beside these there is one for the whole.

@@ -1,6 +1,7 @@
 //! The crate's side: the same count table under left_right, with handles and guards by our numbers.
 
 use left_right::{Absorb, ReadGuard, ReadHandle, ReadHandleFactory, Taken, WriteHandle};
+use slab::Slab;
 use std::cell::{Cell, RefCell};
 use std::collections::BTreeMap;
 
@@ -118,6 +119,18 @@ pub struct Shown {
     pub second: bool,
 }
 
+/// The slot of a key in the slab, and the key of a slot.
+///
+/// `new` hands out a reader too, under the key 0, with the writer's own under the key 1. A fresh machine of ours has the
+/// writer's own alone, so that reader goes at once, and our slot 1 gets its key.
+fn crossed(number: usize) -> usize {
+    match number {
+        0 => 1,
+        1 => 0,
+        other => other,
+    }
+}
+
 /// A slot is a handle of ours. Slot 0 is the writer's own until take, then a reader's like the others.
 ///
 /// Guards borrow from handles, and both live here for as long as the history wants, so the borrows go by raw pointers:
@@ -127,24 +140,29 @@ pub struct World {
     readers: [*mut ReadHandle<Counts>; SLOTS],
     writer: *mut WriteHandle<Counts, Change>,
     factory: ReadHandleFactory<Counts>,
+    /// The crate's slab hides its keys. This one is the same slab, with the same inserts and removes.
+    keys: Slab<()>,
     careful: bool,
 }
 
 impl World {
-    /// `new` hands out a reader too, under the slab's key 0, with the writer's own under key 1. A fresh machine of ours
-    /// has the writer's own alone, so that reader goes at once, and our slot 1 gets its key.
-    ///
     /// A careful world asks before it waits, where the crate has a call that asks: to shrink a history that would not end.
     pub fn new(careful: bool) -> World {
         let (writer, reader) = left_right::new::<Counts, Change>();
+        let mut keys = Slab::new();
+        for slot in [1, 0] {
+            assert_eq!(keys.insert(()), crossed(slot));
+        }
         let factory = reader.factory();
         drop(reader);
+        keys.remove(crossed(1));
         work_done();
         World {
             guards: Default::default(),
             readers: [std::ptr::null_mut(); SLOTS],
             writer: Box::into_raw(Box::new(writer)),
             factory,
+            keys,
             careful,
         }
     }
@@ -167,9 +185,12 @@ impl World {
         unsafe { &mut *self.writer }
     }
 
-    pub fn create(&mut self, slot: usize) {
+    /// The new handle's slot, by its key.
+    pub fn create(&mut self) -> usize {
+        let slot = crossed(self.keys.insert(()));
         assert!(self.readers[slot].is_null());
         self.readers[slot] = Box::into_raw(Box::new(self.factory.handle()));
+        slot
     }
 
     pub fn drop_handle(&mut self, slot: usize) {
@@ -178,6 +199,7 @@ impl World {
         assert!(!reader.is_null());
         // Safety: it came out of a box, and no guard borrows from it.
         drop(unsafe { Box::from_raw(reader) });
+        self.keys.remove(crossed(slot));
     }
 
     /// The number of the guard, by our rule the lowest free one, or none where the crate says None.
@@ -239,6 +261,7 @@ impl World {
         DROPPED.with(|dropped| *dropped.borrow_mut() = [None, None]);
         // Safety: it came out of a box, and no guard borrows from it.
         let taken: Taken<Counts, Change> = (*unsafe { Box::from_raw(writer) }).take();
+        self.keys.remove(crossed(0));
         let handed = Counts::clone(&taken);
         let dropped = DROPPED.with(|dropped| dropped.borrow_mut()[0].take());
         drop(taken);

@@ -3,7 +3,9 @@
 //!
 //!   bench [RECORDS]                              times
 //!   bench plays PLAYER SCHEDULE TIMES [RECORDS]  that many plays and no more, for something that counts instructions
-//!   bench appends SCHEDULE [RECORDS]             how many appends it has
+//!   bench count CALL SCHEDULE [RECORDS]          how many records of that call it has
+//!
+//! Three more schedules are there for their instructions alone: handles that come and go with 1, 8 or 15 slots in use.
 //!
 //! Each player plays each schedule a number of times, in turn, and the shortest time counts: what else the machine does
 //! only ever adds. The reference walks through the pairs of a table; `halving` is the same program with a search by
@@ -97,6 +99,15 @@ fn held(length: usize) -> Vec<Record> {
     records
 }
 
+/// A handle is made and dropped again and again, beside so many slots that stay in use.
+fn creates(length: usize, used: u8) -> Vec<Record> {
+    let mut records: Vec<Record> = (1..used).map(|_| Record::of(call::CREATE)).collect();
+    while records.len() < length {
+        records.extend([Record::of(call::CREATE), Record::on(used, call::DROP)]);
+    }
+    records
+}
+
 /// A schedule by its name.
 fn named(name: &str, length: usize) -> Option<Vec<Record>> {
     match name {
@@ -105,6 +116,9 @@ fn named(name: &str, length: usize) -> Option<Vec<Record>> {
         "held-polls" => Some(held(length)),
         "batches" => Some(batches(length, &[Record::batch(BATCH_ROOM as u64)])),
         "one-by-one" => Some(batches(length, &[])),
+        "creates-1" => Some(creates(length, 1)),
+        "creates-8" => Some(creates(length, 8)),
+        "creates-15" => Some(creates(length, 15)),
         _ => None,
     }
 }
@@ -150,10 +164,12 @@ fn plays(words: &mut impl Iterator<Item = String>) -> Option<()> {
     Some(())
 }
 
-fn count_appends(words: &mut impl Iterator<Item = String>) -> Option<()> {
+fn count(words: &mut impl Iterator<Item = String>) -> Option<()> {
+    let counted = words.next()?;
+    let place = call::NAMES.iter().position(|&call| call == counted)?;
     let name = words.next()?;
     let records = named(&name, common::number(words.next(), RECORDS) as usize)?;
-    println!("{}", records.iter().filter(|record| record.call == call::APPEND).count());
+    println!("{}", records.iter().filter(|record| record.call == call::FIRST + place as u8).count());
     Some(())
 }
 
@@ -180,16 +196,16 @@ fn times(length: usize) {
 
 fn main() {
     let mut words = std::env::args().skip(1).peekable();
-    let done = match words.next_if(|word| word == "plays" || word == "appends").as_deref() {
+    let done = match words.next_if(|word| word == "plays" || word == "count").as_deref() {
         Some("plays") => plays(&mut words),
-        Some(_) => count_appends(&mut words),
+        Some(_) => count(&mut words),
         None => {
             times(common::number(words.next(), RECORDS) as usize);
             Some(())
         }
     };
     if done.is_none() {
-        eprintln!("bench plays PLAYER SCHEDULE TIMES [RECORDS], or bench appends SCHEDULE [RECORDS]");
+        eprintln!("bench plays PLAYER SCHEDULE TIMES [RECORDS], or bench count CALL SCHEDULE [RECORDS]");
         std::process::exit(2)
     }
 }

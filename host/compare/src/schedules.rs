@@ -171,7 +171,7 @@ fn records(choose: &mut Random) -> Vec<Record> {
         style => {
             // What the rules refuse is mostly left out, so that the machine gets far.
             let mut weights = weights(choose);
-            let slots = choose.pick(&[2, 3, 5, SLOTS]);
+            let mut slots = choose.pick(&[2, 3, 5, SLOTS]);
             let (mut length, mut keys) = (10 + choose.below(300), choose.pick(&[1, 3, 8]));
             if style == 3 {
                 // Enough to fill the log and the table.
@@ -180,6 +180,13 @@ fn records(choose: &mut Random) -> Vec<Record> {
                 weights[at(call::BATCH)] = choose.pick(&[0, 5, 50]);
                 weights[at(call::LOOK_UP)] = 20;
                 weights[at(call::TAKE)] = 0;
+            }
+            if (8..10).contains(&style) {
+                // Many handles come and go, so that several slots are freed at once.
+                slots = SLOTS;
+                for call in [call::CREATE, call::DROP] {
+                    weights[at(call)] = choose.pick(&[10, 20]);
+                }
             }
             let churned = (4..8).contains(&style);
             let calm = choose.pick(&[2, 8, 1000]);

@@ -16,6 +16,7 @@ use common::{
     PAIRS, PAIR_WORDS, RECORD, SLOTS, VERSION, WORDS,
 };
 use std::collections::VecDeque;
+use std::ops::Range;
 
 fn done(value: u64) -> Reply {
     Reply { answer: DONE, value }
@@ -231,6 +232,10 @@ pub struct Machine {
     pub swap_index: usize,
     pub slots: [Slot; SLOTS],
     pub snapshots: [u64; SLOTS],
+    /// Slots freed and not handed out since, the one freed last at the end.
+    freed: Vec<usize>,
+    /// Slots that were never in use.
+    unused: Range<usize>,
     /// The copy that the pointer names, or named before it became null.
     pub pointer: Side,
     pub null: bool,
@@ -250,6 +255,8 @@ impl Machine {
             swap_index: 0,
             slots,
             snapshots: [0; SLOTS],
+            freed: Vec::with_capacity(SLOTS),
+            unused: 1..SLOTS,
             pointer: LEFT,
             null: false,
             locked: false,
@@ -285,12 +292,18 @@ impl Machine {
         if self.locked {
             return only(LOCKED);
         }
-        let Some(free) = self.slots.iter().position(|slot| !slot.used) else {
+        // As the crate's slab: the slot freed last, and a new number, the lowest, only where none is freed.
+        let Some(free) = self.freed.pop().or_else(|| self.unused.next()) else {
             return only(SLOTS_FULL);
         };
         // The snapshot stays: the crate keeps it too, and a publish may be held by it (P8).
         self.slots[free] = Slot { used: true, ..Slot::FREE };
         done(free as u64)
+    }
+
+    fn free(&mut self, at: usize) {
+        self.slots[at].used = false;
+        self.freed.push(at);
     }
 
     /// The refusals that every call on a handle shares, up to 6.
@@ -320,7 +333,7 @@ impl Machine {
         if self.slots[at].guarded() {
             return only(GUARDS_OPEN);
         }
-        self.slots[at].used = false;
+        self.free(at);
         done(0)
     }
 
@@ -654,7 +667,7 @@ impl Machine {
                 self.copies[write] = Table::empty();
                 self.log.clear();
                 self.swap_index = 0;
-                self.slots[0].used = false;
+                self.free(0);
                 self.locked = false;
                 self.phase = Phase::Gone;
                 return Stepped::Ended;

@@ -1,7 +1,7 @@
 //! The known ends of the scope, its counts, the order of refusals and the refused files.
 
 use super::*;
-use common::{schedule, steps};
+use common::{schedule, steps, Random};
 
 const TOP: u64 = u64::MAX;
 
@@ -529,6 +529,115 @@ fn create_after_gone_hands_out_slot_0() {
     assert_eq!(m.go_on(0), says(NONE, 0));
     assert_eq!(m.drop_handle(0), says(DONE, 0));
     assert_eq!(m.append(Operation { kind: 9, key: 0, amount: 0 }), says(GONE, 0));
+}
+
+/// A machine with so many handles besides the writer's own.
+fn with_handles(count: u64) -> Machine {
+    let mut m = Machine::fresh();
+    for slot in 1..=count {
+        assert_eq!(m.create(), says(DONE, slot));
+    }
+    m
+}
+
+fn drops(m: &mut Machine, slots: &[u8]) {
+    for &slot in slots {
+        assert_eq!(m.drop_handle(slot), says(DONE, 0));
+    }
+}
+
+/// These come one after the other.
+fn creates(m: &mut Machine, slots: impl IntoIterator<Item = u8>) {
+    for slot in slots {
+        assert_eq!(m.create(), says(DONE, slot.into()));
+    }
+}
+
+#[test]
+fn the_slot_freed_last_is_handed_out_first() {
+    let mut m = with_handles(2);
+    drops(&mut m, &[1, 2]);
+    creates(&mut m, [2, 1, 3]);
+    // Freed once more, in the other order and with one in use between.
+    drops(&mut m, &[3, 1]);
+    creates(&mut m, [1, 3, 4]);
+}
+
+#[test]
+fn take_frees_slot_0_at_its_end() {
+    let gone = || {
+        let mut m = with_handles(2);
+        drops(&mut m, &[1]);
+        m.take();
+        m.run();
+        m
+    };
+    creates(&mut gone(), [0, 1, 3]);
+    let mut m = gone();
+    drops(&mut m, &[2]);
+    creates(&mut m, [2, 0, 1, 3]);
+    drops(&mut m, &[0, 3]);
+    creates(&mut m, [3, 0, 4]);
+}
+
+#[test]
+fn slots_dropped_while_a_take_is_under_way() {
+    let mut m = with_handles(4);
+    published(&mut m);
+    m.append(add(1, 1));
+    m.take();
+    // Before each of its two publishes, before null and before the lock.
+    let mut dropped = Vec::new();
+    for slot in [3, 1, 4, 2] {
+        while m.locked {
+            assert_eq!(m.step(), says(DONE, 0));
+        }
+        dropped.push(m.phase);
+        drops(&mut m, &[slot]);
+        assert_eq!(m.step(), says(DONE, 0));
+    }
+    assert_eq!(dropped, [Phase::Begin(Whose::TakeFirst), Phase::Begin(Whose::TakeSecond), Phase::Null, Phase::Lock]);
+    assert_eq!(m.run().answer, DONE);
+    creates(&mut m, [0, 2, 4, 1, 3, 5]);
+}
+
+#[test]
+fn sixteen_slots_are_handed_out_in_any_order_of_drops() {
+    const ALL: std::ops::Range<u8> = 1..SLOTS as u8;
+    let mut m = with_handles(ALL.end as u64 - 1);
+    let odd_first: Vec<u8> = ALL.filter(|slot| slot % 2 == 1).chain(ALL.filter(|slot| slot % 2 == 0)).collect();
+    for order in [ALL.collect(), ALL.rev().collect(), odd_first, vec![9], vec![2, 15, 8]] {
+        assert_eq!(m.create(), says(SLOTS_FULL, 0));
+        drops(&mut m, &order);
+        creates(&mut m, order.into_iter().rev());
+    }
+    assert_eq!(m.create(), says(SLOTS_FULL, 0));
+}
+
+#[test]
+fn handles_that_come_and_go() {
+    // The same rule from when each slot was freed, which those never in use were not.
+    let mut choose = Random::new(1);
+    for _ in 0..100 {
+        let mut m = Machine::fresh();
+        let mut freed_at = [0; SLOTS];
+        for now in 1..200 {
+            if now == 100 {
+                m.take();
+                m.run();
+                freed_at[0] = now;
+            } else if choose.chance(1, 2) {
+                let slot = choose.below(SLOTS);
+                if m.drop_handle(slot as u8) == says(DONE, 0) {
+                    freed_at[slot] = now;
+                }
+            } else {
+                let free = (0..SLOTS).rev().filter(|&slot| !m.slots[slot].used);
+                let wanted = free.max_by_key(|&slot| freed_at[slot]);
+                assert_eq!(m.create(), wanted.map_or(only(SLOTS_FULL), |slot| says(DONE, slot as u64)));
+            }
+        }
+    }
 }
 
 #[test]
