@@ -1,4 +1,4 @@
--- Wrong machines that hand out other slots, or refuse to: each is stopped by one field, and those of the order by the demands too.
+-- Wrong machines that hand out other slots, or refuse to: each is stopped by one field. So the demands stop them too (demands-reuse).
 use Prim.Native.Nat.{_-_}
 use mathlib.Core.Path.{refl, sym}
 use mathlib.Core.Bool.{true≢false}
@@ -9,7 +9,6 @@ use Rattle.read.specs.declared.Handle.the-variants.{Drop}
 use Rattle.read.specs.Machine.{slotCount}
 use Rattle.write.specs.declared.Opening.the-variants.{Take}
 use Rattle.write.specs.Call.{Call, Create, On, Open, Run}
-use Rattle.demands.specs.Demands.{Demands}
 use Rattle.demands.specs.Reuse.{Reuse}
 use Rattle.demands.proofs.wrong.Machines.{lowestFree, newFirst, firstFreed, finishForgets, finishLoses, twoSlots, createsOne, createsFull}
 use Rattle.demands.proofs.wrong.Histories.{tells, differ}
@@ -73,25 +72,3 @@ createsFull-wrong-full h = differ refl (h .full allUsed refl refl)
 pub twoSlots-wrong : Reuse twoSlots → ⊥
 unfolding tells
 twoSlots-wrong h = true≢false (sym (h .only-full (Create ∷ []) refl .0))
-
--- ---- the demands' answers and values
-
-pub finishLoses-wrong-answers : Demands finishLoses → ⊥
-unfolding tells
-finishLoses-wrong-answers h = differ refl (h .answers handedOver Create refl)
-
-pub lowestFree-wrong-values : Demands lowestFree → ⊥
-unfolding tells
-lowestFree-wrong-values h = differ refl (h .values twoFreed Create refl)
-
-pub newFirst-wrong-values : Demands newFirst → ⊥
-unfolding tells
-newFirst-wrong-values h = differ refl (h .values twoFreed Create refl)
-
-pub firstFreed-wrong-values : Demands firstFreed → ⊥
-unfolding tells
-firstFreed-wrong-values h = differ refl (h .values twoFreed Create refl)
-
-pub finishForgets-wrong-values : Demands finishForgets → ⊥
-unfolding tells
-finishForgets-wrong-values h = differ refl (h .values handedOver Create refl)
