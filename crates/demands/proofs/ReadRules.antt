@@ -1,15 +1,18 @@
 -- The rules that `read`'s contracts cite are those of the whole machine.
-use Prim.Native.Nat.{ℕ}
+use Prim.Native.Nat.{ℕ, _*_}
 use mathlib.Core.Path.{_≡_, refl, sym, ap, _∙_, subst₂}
 use mathlib.Core.Logic.{_≢_}
 use mathlib.Core.Bool.{Bool, true, false}
 use mathlib.Core.List.{List, []}
 use lib.Dec.{eqb, ltb}
-use lib.ListN.{getD, replicate}
+use lib.ListN.{length, getD, replicate}
 use Rattle.table.specs.declared.Answer.the-variants as answer
 use Rattle.table.specs.Answers.{number}
-use Rattle.table.specs.Copy.{zeros, lookRule, usedRule}
+use Rattle.table.specs.Copy.{zeros, fits, lookRule, usedRule}
+use Rattle.table.specs.Many.{toldAll, lookAllRule}
 use Rattle.table.proofs.Split.{split}
+use Rattle.table.proofs.Cases.{fits-fit, used-fit, used-unfit}
+use Rattle.table.proofs.Many.{look-all-view}
 use Rattle.read.specs.declared.Verdict.{Verdict}
 use Rattle.read.specs.declared.Verdict.the-variants.{Admitted, Refused}
 use Rattle.read.specs.declared.State.{State}
@@ -19,7 +22,7 @@ use Rattle.read.specs.declared.Reply.{Reply}
 use Rattle.read.specs.declared.Handle.{Handle}
 use Rattle.read.specs.declared.Handle.the-variants.{LookUp}
 use Rattle.read.specs.Machine.{slotCount, sized, judged, fresh}
-use Rattle.read.specs.Handles.{Sign, smallest, handleSigns, madeOf, guardedCopy, handled, handleOn}
+use Rattle.read.specs.Handles.{Sign, smallest, handleSigns, madeOf, guardedCopy, handled, handledBy, handleBy}
 use Rattle.read.specs.Calls.{Lent, lent, slotAt, refusal, replyOf, handleReply, handleRule, createReply, createRule, throughRule, viewRule, pairRule, startRule}
 use Rattle.write.specs.Call.{Create, On}
 use Rattle.write.specs.Machine.{callOn, callRule}
@@ -83,7 +86,7 @@ module _ (i j key : ℕ) (w : World) where
   unseen o e = record { counts = e; refused = λ _. refl }
 
   joined-by : (v : Verdict) (b : Bool) (u : Verdict) → Joined (replyBy v b u) (shownBy v b u)
-  unfolding handled
+  unfolding handledBy
   joined-by Admitted true Admitted = record { counts = refl; refused = λ n. absurd (n refl) }
   joined-by Admitted true (Refused a) = unseen (replyBy Admitted true (Refused a)) refl
   joined-by Admitted false u = unseen (replyBy Admitted false u) refl
@@ -95,7 +98,7 @@ module _ (i j key : ℕ) (w : World) where
   any-key false = refl
 
   joined : Joined (looked .made) (shown i j w)
-  unfolding handleRule handleOn throughRule
+  unfolding handleRule handleBy throughRule
   joined =
       let v = judged (w .state) (w .left) (w .right) (w .log) in
       let signs = handleSigns (w .state .control) (eqb i 0) s (LookUp j key) in
@@ -111,6 +114,18 @@ module _ (i j key : ℕ) (w : World) where
   pub one-view : answerOf looked ≢ 0 → viewRule i j (w .left) (w .right) (w .log) (w .state) ≡ []
   unfolding usedRule
   one-view n = ap usedRule (joined .refused n)
+
+-- of each of many keys in a view is told what `pairRule` hands back of it, which is what a look up in the copy that is shown finds
+pub one-all :
+    (i j : ℕ) (w : World) (keys out : List ℕ) → length out ≡ 2 * length keys →
+    viewRule i j (w .left) (w .right) (w .log) (w .state) ≢ [] →
+    lookAllRule (viewRule i j (w .left) (w .right) (w .log) (w .state)) keys out
+    ≡ record { answer = answer.Done; copy = toldAll keys (shown i j w) }
+one-all i j w keys out e n =
+    let x = shown i j w in
+    split (fits x)
+    (λ f. ap (λ (v : List ℕ). lookAllRule v keys out) (used-fit x f) ∙ look-all-view x (fits-fit x f) keys out e)
+    (λ f. absurd (n (used-unfit x f)))
 
 -- ---- start
 

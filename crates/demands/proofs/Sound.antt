@@ -2,6 +2,7 @@
 use Prim.Native.Nat.{ℕ}
 use mathlib.Core.Path.{_≡_, sym, subst, _∙_}
 use lib.ListN.{length, length-set}
+use Rattle.table.specs.Order.{Tidy}
 use Rattle.read.specs.declared.Slot.{Slot}
 use Rattle.read.specs.declared.Reply.{Reply}
 use Rattle.read.specs.Machine.{slotCount}
@@ -27,7 +28,7 @@ sound-next k w h = sound-call k (w .state) (w .left) (w .right) (w .log) h
 
 -- a world as far as its words and the numbers of its slots go, whatever the order of the free ones
 pub record Firm (w : World) : Type 0 where
-  pub good : Good (w .state .control) (w .left) (w .right) (w .log)
+  pub good : Good Tidy (w .state .control) (w .left) (w .right) (w .log)
   pub slots : length (w .state .slots) ≡ slotCount
   pub snapshots : length (w .state .snapshots) ≡ slotCount
 

@@ -20,19 +20,19 @@ pub struct World {
 }
 
 // A line's first word has its number in the list of `kind`: 0 start, 1 to 15 the calls of a schedule, 16 to 21 calls on the left slice,
-// 22 the release in place, 23 to 27 parts that are shown, 28 to 30 a slice, 31 lengths and 32 a fresh machine that are set up, 33 to 36
-// parts of the state.
-const CALLS: usize = 23;
+// 22 the release in place, 23 and 24 many look ups, 25 to 29 parts that are shown, 30 to 32 a slice, 33 lengths and 34 a fresh machine that
+// are set up, 35 to 38 parts of the state.
+const CALLS: usize = 25;
 
-const SLICES: usize = 28;
+const SLICES: usize = 30;
 
-const LENGTHS: usize = 31;
+const LENGTHS: usize = 33;
 
-const FRESH: usize = 32;
+const FRESH: usize = 34;
 
 fn kind(line: &[u8]) -> usize {
     tell::which(
-        b"start create drop enter go-on release look-up was-dropped append publish try flush take step run extend apply add remove clear close-gap fill leave view pair find used apart left right log lengths fresh set phase slot snapshot",
+        b"start create drop enter go-on release look-up was-dropped append publish try flush take step run extend apply add remove clear close-gap fill leave find-all find-each view pair find used apart left right log lengths fresh set phase slot snapshot",
         word(line, 0),
     )
 }
@@ -58,9 +58,9 @@ fn part<'a>(
     log: &[u64],
 ) -> &'a [u64] {
     match k {
-        23 => machine::view(st, x as usize, j, left, right, log),
-        24 => machine::pair(st, x as usize, j, key, left, right, log),
-        25 => table::look_up(left, x),
+        25 => machine::view(st, x as usize, j, left, right, log),
+        26 => machine::pair(st, x as usize, j, key, left, right, log),
+        27 => table::look_up(left, x),
         _ => table::used(left),
     }
 }
@@ -112,11 +112,11 @@ fn on_state<'a>(
         11 => machine::flush(st, left, right, log),
         12 => machine::take(st, left, right, log),
         22 => left_by(st, i, j),
-        23..=26 => {
+        25..=28 => {
             say_part(part(k, x, j, key, st, left, right, log));
             answered(Answer::Done, st)
         }
-        27 => {
+        29 => {
             say_apart(left, right);
             answered(Answer::Done, st)
         }
@@ -144,7 +144,7 @@ fn acted(
     log: &mut [u64],
 ) -> Reply {
     match k {
-        0 | 32 => machine::start(left, right, log),
+        0 | 34 => machine::start(left, right, log),
         8 => machine::append(
             st,
             value(line, 1),
@@ -158,9 +158,10 @@ fn acted(
         14 => machine::run(st, left, right, log),
         15 => extended(line, st, left, right, log),
         16..=21 => answered(slices::call(k, line, left), st),
-        28 => answered(slices::set_up(line, left), st),
-        29 => answered(slices::set_up(line, right), st),
-        30 => answered(slices::set_up(line, log), st),
+        23 | 24 => answered(slices::find_many(k, &left[..], &right[..], log), st),
+        30 => answered(slices::set_up(line, left), st),
+        31 => answered(slices::set_up(line, right), st),
+        32 => answered(slices::set_up(line, log), st),
         _ => on_state(k, line, st, &left[..], &right[..], &log[..]),
     }
 }

@@ -394,10 +394,10 @@ fn set_phase(st: State, line: &[u8]) -> State {
 // A line that sets up a part of the state.
 pub(crate) fn set_up(k: usize, line: &[u8], st: State) -> State {
     match k {
-        33 => set_field(st, line),
-        34 => set_phase(st, line),
-        35 => with_slot(st, value(line, 1) as usize, slot_of(line)),
-        36 => with_snapshot(st, value(line, 1) as usize, value(line, 2)),
+        35 => set_field(st, line),
+        36 => set_phase(st, line),
+        37 => with_slot(st, value(line, 1) as usize, slot_of(line)),
+        38 => with_snapshot(st, value(line, 1) as usize, value(line, 2)),
         _ => st,
     }
 }

@@ -2,8 +2,8 @@
 use table::Answer;
 use tell::word;
 
-// A word more than a copy has, so that a longer slice can be lent.
-pub const SPACE: usize = table::WORDS + 1;
+// A pair more than a copy has, so that a longer slice can be lent, and a view with more entries than pairs.
+pub const SPACE: usize = table::WORDS + 2;
 
 // The words of one operation more than a batch may have.
 pub const OPS: usize = 195;
@@ -125,5 +125,39 @@ pub(crate) fn call(k: usize, line: &[u8], w: &mut [u64]) -> Answer {
         19 => table::clear(w),
         20 => closed(w, x as usize, y as usize),
         _ => filled(w),
+    }
+}
+
+// ---- many look ups at once
+
+// Word `i` of what is told of the keys, each looked up in a copy by itself.
+fn told_at(w: &[u64], keys: &[u64], i: usize) -> u64 {
+    let k = i / 2;
+    if keys.len() <= k {
+        return 0;
+    }
+    let p = table::look_up(w, keys[k]);
+    if p.len() < 2 {
+        return 0;
+    }
+    if i % 2 == 0 {
+        return 1;
+    }
+    p[1]
+}
+
+fn find_each(w: &[u64], keys: &[u64], out: &mut [u64]) -> Answer {
+    let mut i = 0;
+    while i < out.len() {
+        out[i] = told_at(w, keys, i);
+        i += 1;
+    }
+    Answer::Done
+}
+
+pub(crate) fn find_many(k: usize, w: &[u64], keys: &[u64], out: &mut [u64]) -> Answer {
+    match k {
+        23 => table::look_up_all(w, keys, out),
+        _ => find_each(w, keys, out),
     }
 }

@@ -13,7 +13,7 @@ use Rattle.read.specs.declared.Verdict.{Verdict}
 use Rattle.read.specs.declared.Verdict.the-variants.{Admitted, Refused}
 use Rattle.read.specs.Machine.{isOpen}
 use Rattle.read.specs.Admission.{column, entry}
-use Rattle.read.specs.Handles.{sign, smallest, madeOf, released, handled, handleOn}
+use Rattle.read.specs.Handles.{sign, smallest, madeOf, released, handled, handleOn, handleBy, handledBy}
 use Rattle.place.specs.declared.Released.{Released}
 use Rattle.place.specs.Release.{releaseSigns, releaseRule}
 
@@ -41,10 +41,10 @@ module _ (c : Control) (n j : ℕ) (s : Slot) (l r : List ℕ) (admitted : entry
   ruled v = elim v [ Admitted ↦ record { answer = Done; slot = released j s } | Refused a ↦ record { answer = a; slot = s } ]
 
   by-verdict : (v : Verdict) → answered v ≡ made c (ruled v)
-  unfolding handled
+  unfolding handledBy
   by-verdict Admitted = refl
   by-verdict (Refused a) = refl
 
   pub release-as-handle : handleOn c n s (Release j) l r ≡ made c (releaseRule j s)
-  unfolding handleOn releaseRule smallest
+  unfolding handleBy releaseRule smallest
   release-as-handle = (λ i. answered (verdict (admitted i) j s)) ∙ by-verdict (smallest (releaseSigns j s))

@@ -11,6 +11,7 @@ use Rattle.table.specs.Order.{Op, op}
 use Rattle.table.specs.declared.Answer.{Answer}
 use Rattle.table.specs.declared.Answer.the-variants as answer
 use Rattle.table.proofs.Split.{under}
+use Rattle.table.specs.declared.Search.the-variants.{Walk}
 use Rattle.read.specs.declared.Control.{Control}
 use Rattle.read.specs.declared.Slot.{Slot}
 use Rattle.read.specs.declared.Verdict.{Verdict}
@@ -21,7 +22,7 @@ use Rattle.read.specs.Calls.{Lent, lent}
 use Rattle.write.specs.declared.Moved.{Moved}
 use Rattle.write.specs.Call.{opsIn}
 use Rattle.write.specs.Steps.{refused}
-use Rattle.write.specs.Begins.{writerSigns, batchRoom, allLawful, crowds, appended, appendOn}
+use Rattle.write.specs.Begins.{writerSigns, batchRoom, allLawful, crowds, appended, appendOn, appendBy}
 use Rattle.format.specs.declared.Fields.{Fields}
 use Rattle.format.specs.Schedule.{recordBytes, fieldsAt}
 use Rattle.play.specs.Schedule.{opsFrom}
@@ -83,13 +84,13 @@ module _ (c : Control) (t : Slot) (e : ℕ) (l r g : List ℕ) where
   reason gone = elim gone [ true ↦ answer.Gone | false ↦ answer.Operation ]
 
   too-many : (os : List Op) → batchRoom < length os → appendOn os c t e l r g ≡ lent (refused (reason (isGone (c .phase))) c t e) l r g
-  unfolding appendOn smallest
+  unfolding appendBy smallest
   too-many os h =
       ap (λ (b : Bool). by (smallest (writerSigns 7 (not (b && allLawful os)) (crowds (length os) c) c t))) (lt-leb (length os) batchRoom h)
       ∙ go (isGone (c .phase)) (drop 2 (writerSigns 7 true (crowds (length os) c) c t))
     where
       by : Verdict → Lent Moved
-      by v = elim v [ Admitted ↦ appended (c .first) os c t e l r g | Refused a ↦ lent (refused a c t e) l r g ]
+      by v = elim v [ Admitted ↦ appended Walk (c .first) os c t e l r g | Refused a ↦ lent (refused a c t e) l r g ]
 
       go : (gone : Bool) (rest : List Sign) →
           by (smallest (sign answer.Gone gone ∷ sign answer.Operation true ∷ rest)) ≡ lent (refused (reason gone) c t e) l r g

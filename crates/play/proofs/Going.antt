@@ -12,6 +12,7 @@ use Rattle.table.specs.Answers.{number}
 use Rattle.table.specs.declared.Answer.{Answer}
 use Rattle.table.specs.declared.Answer.the-variants as answer
 use Rattle.table.proofs.Split.{split}
+use Rattle.table.specs.declared.Search.the-variants.{Halve}
 use Rattle.read.specs.declared.Control.{Control}
 use Rattle.read.specs.declared.Slot.{Slot}
 use Rattle.read.specs.declared.Phase.{Phase}
@@ -30,13 +31,14 @@ use Rattle.write.specs.declared.Moved.{Moved}
 use Rattle.table.specs.Order.{Op}
 use Rattle.play.specs.declared.schedule.Act.{Act}
 use Rattle.play.specs.declared.schedule.Act.the-variants as act
-use Rattle.write.specs.Steps.{holds, refused, moved, stopped, lastPollMove, stepAt, at, polling}
+use Rattle.write.specs.Steps.{holds, refused, moved, stopped, lastPollMove, stepAt, at, polling, stepBy}
 use Rattle.write.specs.Begins.{stepSigns}
 use Rattle.write.specs.Runs.{lift, stepOn, afterStep, runOn}
 use Rattle.write.specs.Machine.{going, callOn}
 use Rattle.write.specs.World.{answerOf, valueOf, worldOf}
 use Rattle.write.proofs.Left.{usedAs, step-slot, step-value, step-lowers, manySteps, left-small}
 use Rattle.write.proofs.NeverBroken.{Sound, sound-step}
+use Rattle.write.proofs.Rising.{step-rising}
 use Rattle.play.specs.declared.turns.Far.{Far}
 use Rattle.play.specs.Player.{machine}
 use Rattle.play.specs.Turns.{meant, membersOf, isGoing, isRunning, halt, haltOf, far, facing, wentOn}
@@ -81,7 +83,7 @@ module _ (c : Control) (s : Slot) (e : ℕ) (l r g : List ℕ) where
   -- a step that is halted changes nothing
   halted :
       (p : Phase) → Halts (halt p (c .job) (holds s e)) → stepAt p c s e l r g ≡ lent (refused (halt p (c .job) (holds s e)) c s e) l r g
-  unfolding stepAt
+  unfolding stepBy
   halted Idle h = refl
   halted Begin h = absurd (h refl)
   halted (Poll k) h = ap (λ (m : Moved). lent m l r g) (poll-halts k (holds s e) (c .job) h)
@@ -290,8 +292,12 @@ going-begins os k p c ss es l r g h {i} e q x =
 
 module _ {o : Lent Reply} {run : Bool} {n : ℕ} {c : Control} {ss : List Slot} {es l r g : List ℕ} (v : Goes o run n c ss es l r g)
     (h : Sound (stateOf c ss es) l r g) {i : ℕ} (p : i ≡ place (c .phase)) {s : Slot} (q : s ≡ getD ss i noSlot) {m : Moved} {l' r' g' : List ℕ}
-    (x : lent m l' r' g' ≡ stepAt (c .phase) c s (getD es i 0) l r g)
+    (made : lent m l' r' g' ≡ stepBy Halve (c .phase) c s (getD es i 0) l r g)
   where
+    -- the copies rise, so that it does not matter how a key was searched
+    x : lent m l' r' g' ≡ stepAt (c .phase) c s (getD es i 0) l r g
+    x = made ∙ step-rising Halve c s (getD es i 0) l r g (h .good .words .left) (h .good .words .right)
+
     -- its slot is put back where it differs in use
     leaves : {b : Bool} → Bool·beq (s .used) (m .slot .used) ≡ b → m .slot ≡ elim b [ true ↦ s | false ↦ freed (c .free) s ]
     leaves u =

@@ -16,7 +16,7 @@ use Rattle.read.specs.Machine.{slotCount, noSlot, judged}
 use Rattle.read.specs.Calls.{Lent, lent}
 use Rattle.write.specs.declared.Moved.{Moved}
 use Rattle.write.specs.Call.{Call}
-use Rattle.table.specs.Order.{Op}
+use Rattle.table.specs.Order.{Op, Tidy}
 use Rattle.write.specs.Machine.{callOn, callRule}
 use Rattle.write.specs.World.{World, worldOf, answerOf, valueOf, Played, answering, played}
 use Rattle.write.proofs.Judged.{judged-good, judged-orderly}
@@ -70,11 +70,18 @@ pub record Plays (s out₀ whole : List ℕ) (end : World) (out : List ℕ) (fro
     pub same : take to out ++ entriesOf (rest s from (machine (stateOf c ss es) l r g) .replies) ≡ whole
     pub ends : rest s from (machine (stateOf c ss es) l r g) .world ≡ end
 
--- a machine that is whole
-pub sound-judged : (st : State) (l r g : List ℕ) → judged st l r g ≡ Admitted → length (st .slots) ≡ slotCount →
+-- a machine that is whole, and whose copies are tidy
+pub sound-judged : (st : State) (l r g : List ℕ) → judged st l r g ≡ Admitted → Tidy l → Tidy r → length (st .slots) ≡ slotCount →
     length (st .snapshots) ≡ slotCount → Sound st l r g
-sound-judged st l r g h x y =
-    record { good = judged-good st l r g h; ordered = judged-orderly st l r g h; slots = x; snapshots = y }
+sound-judged st l r g h a b x y =
+    let d = judged-good st l r g h in
+    record {
+      good =
+          record { whole = d .whole; words = record { left = a; right = b; log = d .words .log; lawfully = d .words .lawfully } };
+      ordered = judged-orderly st l r g h;
+      slots = x;
+      snapshots = y;
+    }
 
 pub plays-start :
     (s out : List ℕ) (st : State) (l r g : List ℕ) → Sound st l r g → length (transcript (callsIn s) (machine st l r g)) ≤ length out →

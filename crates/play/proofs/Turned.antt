@@ -12,6 +12,7 @@ use Rattle.table.specs.Order.{Op, op}
 use Rattle.table.specs.declared.Answer.{Answer}
 use Rattle.table.specs.declared.Answer.the-variants as answer
 use Rattle.table.proofs.Lists.{getD-within}
+use Rattle.table.specs.declared.Search.the-variants.{Walk}
 use Rattle.read.specs.declared.Control.{Control}
 use Rattle.read.specs.declared.Handle.{Handle}
 use Rattle.read.specs.declared.Made.{Made}
@@ -28,7 +29,7 @@ use Rattle.write.specs.declared.Moved.{Moved}
 use Rattle.write.specs.declared.Opening.{Opening}
 use Rattle.write.specs.declared.Opening.the-variants as opening
 use Rattle.write.specs.Steps.{refused}
-use Rattle.write.specs.Begins.{writerSigns, lawfulBatch, crowds, appended, appendOn, columnOf, begun, value, opened, openOn}
+use Rattle.write.specs.Begins.{writerSigns, lawfulBatch, crowds, appended, appendOn, columnOf, begun, value, opened, openOn, appendBy}
 use Rattle.write.specs.Runs.{snapAt, lift}
 use Rattle.write.specs.Machine.{callOn}
 use Rattle.play.specs.declared.schedule.Act.{Act}
@@ -90,7 +91,7 @@ module _ (st : State) where
 
     module _ (os : List Op) where
       abbrev appends : Verdict → Bool → ℕ → Lent Moved
-      appends v early e = elim v [ Admitted ↦ appended early os c first e l r g | Refused a ↦ lent (refused a c first e) l r g ]
+      appends v early e = elim v [ Admitted ↦ appended Walk early os c first e l r g | Refused a ↦ lent (refused a c first e) l r g ]
 
       append-kept : (v : Verdict) (early : Bool) → lift 0 st (appends v early (snapAt st 0)) ≡ putSlot 0 st (appends v early 0)
       append-kept Admitted true = kept 0 _ _ _ _ _ _ _
@@ -154,7 +155,7 @@ module _ (st : State) where
           ∙ ap (λ (j : ℕ). put j (touches false (slotAt st j))) (sym (within-here i b))
 
     append-made : (os : List Op) → lift 0 st (appendOn os c first (snapAt st 0) l r g) ≡ putSlot 0 st (appendOn os c first 0 l r g)
-    unfolding appendOn
+    unfolding appendBy
     append-made os =
         append-kept os (smallest (writerSigns 7 (not (lawfulBatch os)) (crowds (length os) c) c first)) (c .first)
 

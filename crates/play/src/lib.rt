@@ -9,6 +9,7 @@ use read::LOG_WORDS;
 use read::SLOTS;
 use read::State;
 use read::guards;
+use table::Search;
 use table::WORDS;
 use write::steps;
 ghost use mathlib.Core.Path.{_≡_};
@@ -17,6 +18,7 @@ ghost use Prim.Native.Nat.{_≤_};
 ghost use lib.ListN.{length, drop};
 ghost use Rattle.read.specs.declared.Verdict.the-variants.{Admitted};
 ghost use Rattle.read.specs.Machine.{judged};
+ghost use Rattle.table.specs.Order.{Tidy};
 ghost use Rattle.read.specs.Calls.{lent};
 ghost use Rattle.play.specs.Schedule.{callsIn};
 ghost use Rattle.play.specs.Player.{transcript as transcriptRule, machine, reached, output, playRule};
@@ -38,7 +40,7 @@ pub(crate) struct Reached {
     pub written: usize,
 }
 
-// Plays the whole records of a part, which has no head, on a machine that is whole. A turn of the loop is a record, and looks at one
+// Plays the whole records of a part, which has no head, on a machine that is whole and whose copies rise. A turn of the loop is a record, and looks at one
 // slot, which is copied out and in; a run's steps are turns of their own, and a batch has its records in one. Only a step changes a
 // snapshot.
 fn play_on(
@@ -49,7 +51,7 @@ fn play_on(
     right: &mut [u64],
     log: &mut [u64],
 ) -> Reached
-    requires { ⌜ (judged st (now left) (now right) (now log) ≡ Admitted) × (length (transcriptRule (callsIn (now s)) (machine st (now left) (now right) (now log))) ≤ length (now out)) ⌝ }
+    requires { ⌜ (judged st (now left) (now right) (now log) ≡ Admitted) × Tidy (now left) × Tidy (now right) × (length (transcriptRule (callsIn (now s)) (machine st (now left) (now right) (now log))) ≤ length (now out)) ⌝ }
     ensures { λ r. ⌜ (lent r (now (left .exit)) (now (right .exit)) (now (log .exit)) ≡ reached (now (s .entry)) (machine st (now (left .entry)) (now (right .entry)) (now (log .entry)))) × (now (out .exit) ≡ (let w = transcriptRule (callsIn (now (s .entry))) (machine st (now (left .entry)) (now (right .entry)) (now (log .entry))) in w ++ drop (length w) (now (out .entry)))) ⌝ }
 {
     let mut c = st.control;
@@ -66,7 +68,7 @@ fn play_on(
             let mut k = steps::place(p);
             far = turns::facing(0, c, slots[k], snaps[k]);
             while far.goes {
-                let m = steps::advance(c, slots[k], snaps[k], left, right, log);
+                let m = steps::advance_by(Search::Halve, c, slots[k], snaps[k], left, right, log);
                 // A step leaves its slot as it is, or frees it.
                 let t = m.slot;
                 let own = slots[k];

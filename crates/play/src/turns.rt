@@ -1,5 +1,5 @@
 // The turns of the player's loop, each on the one slot that it looks at, which is copied out and in. Step and run are made step by
-// step; every other call takes one turn.
+// step; every other call takes one turn. The copies are known to rise, so that keys are found by halving.
 use crate::schedule;
 use crate::schedule::Act;
 use format::RECORD;
@@ -12,6 +12,7 @@ use read::SLOTS;
 use read::Slot;
 use read::handles;
 use table::Answer;
+use table::Search;
 use write::BATCH_ROOM;
 use write::Moved;
 use write::begins;
@@ -19,6 +20,7 @@ use write::steps;
 ghost use mathlib.Core.Path.{_≡_};
 ghost use Prim.Native.Nat.{_+_, _≤_, _<_, _^_};
 ghost use lib.ListN.{length};
+ghost use Rattle.table.specs.Order.{Tidy};
 ghost use Rattle.format.specs.Schedule.{recordBytes};
 ghost use Rattle.write.specs.Begins.{appendOn};
 ghost use Rattle.play.specs.Schedule.{opsFrom};
@@ -68,12 +70,16 @@ fn moved_by(c: Control, m: Made) -> Moved
 
 // A call on the handle in slot `i`.
 fn touch<'a>(i: usize, h: Handle, c: Control, s: Slot, left: &'a [u64], right: &'a [u64]) -> Moved
+    requires { ⌜ Tidy (now left) × Tidy (now right) ⌝ }
     ensures { λ r. ⌜ r ≡ touched i h c s (now (left .entry)) (now (right .entry)) ⌝ }
 {
     if SLOTS <= i {
         return moved_as(Answer::NoSlot, 0, c, s);
     }
-    moved_by(c, handles::handle(c, i, s, h, left, right))
+    moved_by(
+        c,
+        handles::handle_by(Search::Halve, c, i, s, h, left, right),
+    )
 }
 
 // So many operations that they are refused, whatever they are.
@@ -90,13 +96,13 @@ fn batch(
     right: &mut [u64],
     log: &mut [u64],
 ) -> Moved
-    requires { ⌜ at ≤ length (now schedule) ⌝ }
+    requires { ⌜ (at ≤ length (now schedule)) × Tidy (now left) × Tidy (now right) ⌝ }
     ensures { λ r. ⌜ lent r (now (left .exit)) (now (right .exit)) (now (log .exit)) ≡ appendOn (opsFrom (now (schedule .entry)) at n) c s 0 (now (left .entry)) (now (right .entry)) (now (log .entry)) ⌝ }
 {
     let k = schedule::fewer(n, CROWD);
     let mut ops = [0u64; 3 * CROWD];
     schedule::gather(schedule, at, k, &mut ops);
-    begins::extend_on(&ops[..3 * k], c, s, 0, left, right, log)
+    begins::extend_by(Search::Halve, &ops[..3 * k], c, s, 0, left, right, log)
 }
 
 // The call of the record at byte `at`, at slot `i`, whose snapshot none of these calls looks at or changes. Step and run are made apart.
@@ -111,13 +117,14 @@ pub(crate) fn turn(
     right: &mut [u64],
     log: &mut [u64],
 ) -> Moved
-    requires { ⌜ at + recordBytes ≤ length (now schedule) ⌝ }
+    requires { ⌜ (at + recordBytes ≤ length (now schedule)) × Tidy (now left) × Tidy (now right) ⌝ }
     ensures { λ r. ⌜ lent r (now (left .exit)) (now (right .exit)) (now (log .exit)) ≡ turnOn (meantAt (now (schedule .entry)) at call) i c s (now (left .entry)) (now (right .entry)) (now (log .entry)) ⌝ }
 {
     match call {
         Act::Create => moved_by(c, handles::create(c, s)),
         Act::On(_, h) => touch(i, h, c, s, &left[..], &right[..]),
-        Act::Append(kind, key, amount) => begins::append_on(
+        Act::Append(kind, key, amount) => begins::append_by(
+            Search::Halve,
             kind,
             key,
             amount,

@@ -24,6 +24,10 @@ none = copy [] refl
 abbrev pub seven : Words
 seven = copy (1 ∷ 0 ∷ 7 ∷ 3 ∷ []) refl
 
+-- one out of order: key 7 behind key 9
+abbrev pub falls : Words
+falls = copy (2 ∷ 0 ∷ 9 ∷ 1 ∷ 7 ∷ 2 ∷ []) refl
+
 abbrev pub noLog : Words
 noLog = slice (replicate logWords 0) refl
 

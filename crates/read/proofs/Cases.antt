@@ -24,7 +24,7 @@ use Rattle.read.specs.declared.Handle.the-variants.{LookUp}
 use Rattle.read.specs.declared.Verdict.the-variants.{Admitted, Refused}
 use Rattle.read.specs.declared.State.{State}
 use Rattle.read.specs.Machine.{withReading, slotCount, noSlot, newSlot, fresh, logRoom, logWords, guardCount, shut, isOpen, standsRight, putGuard, firstGuard, anyOpen, wholeControl, sized, orderly, glanced, judged, firstUnlawful, behind}
-use Rattle.read.specs.Handles.{madeOf, copyOf, guardedCopy, bumped, withDue, guarded, loaded, entered, released, smallest, handleSigns, handled, handleOn, createSigns, createOn}
+use Rattle.read.specs.Handles.{madeOf, copyOf, guardedCopy, bumped, withDue, guarded, loaded, entered, released, smallest, handleSigns, handledBy, handleBy, handleOn, createSigns, createOn}
 use Rattle.read.specs.Calls.{slotAt, refusal, replyOf, lent, handleReply, handleRule, createReply, createRule, throughGuard, throughRule, startRule}
 use Rattle.read.proofs.Verdicts.{refused-not, silent}
 
@@ -185,14 +185,19 @@ link-past ss i = part-past (λ (s : Slot). s .link) ss i noSlot blank refl
 
 -- ---- calls on a handle
 
-module _ (c : Control) (i : ℕ) (s : Slot) (h : Handle) (l r : List ℕ) where
-  pub handle-refused : (a : Answer) → smallest (handleSigns c (eqb i 0) s h) ≡ Refused a → handleOn c i s h l r ≡ madeOf c a 0 s
-  unfolding handleOn
-  handle-refused a e = rw (e, handleOn)
+-- what holds of both copies holds of the one that a pointer names
+pub of-copy : (P : List ℕ → Type 0) (right : Bool) {l r : List ℕ} → P l → P r → P (copyOf right l r)
+of-copy P true x y = y
+of-copy P false x y = x
 
-  pub handle-made : smallest (handleSigns c (eqb i 0) s h) ≡ Admitted → handleOn c i s h l r ≡ handled c i s h l r
-  unfolding handleOn
-  handle-made e = rw (e, handleOn)
+module _ (look : ℕ → List ℕ → List ℕ) (c : Control) (i : ℕ) (s : Slot) (h : Handle) (l r : List ℕ) where
+  pub handle-refused : (a : Answer) → smallest (handleSigns c (eqb i 0) s h) ≡ Refused a → handleBy look c i s h l r ≡ madeOf c a 0 s
+  unfolding handleBy
+  handle-refused a e = rw (e, handleBy)
+
+  pub handle-made : smallest (handleSigns c (eqb i 0) s h) ≡ Admitted → handleBy look c i s h l r ≡ handledBy look c i s h l r
+  unfolding handleBy
+  handle-made e = rw (e, handleBy)
 
 -- where a call is refused, what was made is put back as it was
 pub reply-back :

@@ -4,6 +4,7 @@ pub mod Phases
 pub mod Table
 pub mod Verdicts
 pub mod Cases
+pub mod Rising
 pub mod FreeOrder
 pub mod Orderly
 pub mod Inner

@@ -132,19 +132,25 @@ abbrev pub bit : Bool → ℕ
 bit true = 1
 bit false = 0
 
--- on the handle in slot i; one that is dropped is handed out next
-unfoldable pub handled : Control → ℕ → Slot → Handle → List ℕ → List ℕ → Made
-handled c i s Drop l r = record { answer = answer.Done; value = 0; slot = freed (c .free) s; free = i }
-handled c i s Enter l r = entered c s
-handled c i s GoOn l r = wentOn c (s .due) s
-handled c i s (Release j) l r = madeOf c answer.Done 0 (released j s)
-handled c i s (LookUp j key) l r = madeOf c answer.Done (getD (lookRule key (guardedCopy (s .guards) j l r)) 1 0) s
-handled c i s WasDropped l r = madeOf c answer.Done (bit (c .null)) s
+-- on the handle in slot i, by how a key is looked up; one that is dropped is handed out next
+unfoldable pub handledBy : (ℕ → List ℕ → List ℕ) → Control → ℕ → Slot → Handle → List ℕ → List ℕ → Made
+handledBy look c i s Drop l r = record { answer = answer.Done; value = 0; slot = freed (c .free) s; free = i }
+handledBy look c i s Enter l r = entered c s
+handledBy look c i s GoOn l r = wentOn c (s .due) s
+handledBy look c i s (Release j) l r = madeOf c answer.Done 0 (released j s)
+handledBy look c i s (LookUp j key) l r = madeOf c answer.Done (getD (look key (guardedCopy (s .guards) j l r)) 1 0) s
+handledBy look c i s WasDropped l r = madeOf c answer.Done (bit (c .null)) s
+
+abbrev pub handled : Control → ℕ → Slot → Handle → List ℕ → List ℕ → Made
+handled = handledBy lookRule
 
 -- a call on the handle in slot i: refused with nothing changed, or made
-unfoldable pub handleOn : Control → ℕ → Slot → Handle → List ℕ → List ℕ → Made
-handleOn c i s h l r =
-    elim (smallest (handleSigns c (eqb i 0) s h)) [ Admitted ↦ handled c i s h l r | Refused a ↦ madeOf c a 0 s ]
+unfoldable pub handleBy : (ℕ → List ℕ → List ℕ) → Control → ℕ → Slot → Handle → List ℕ → List ℕ → Made
+handleBy look c i s h l r =
+    elim (smallest (handleSigns c (eqb i 0) s h)) [ Admitted ↦ handledBy look c i s h l r | Refused a ↦ madeOf c a 0 s ]
+
+abbrev pub handleOn : Control → ℕ → Slot → Handle → List ℕ → List ℕ → Made
+handleOn = handleBy lookRule
 
 -- a create: the slot that is first, s, gets a new handle, and the one behind it is first
 unfoldable pub createOn : Control → Slot → Made

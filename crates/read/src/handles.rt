@@ -13,12 +13,13 @@ use crate::guards;
 use crate::order;
 use crate::truth;
 use table::Answer;
+use table::Search;
 ghost use mathlib.Core.Path.{_≡_};
 ghost use mathlib.Core.Bool.{not, _&&_};
 ghost use Rattle.read.specs.Machine.{isLoad, allOpen};
 ghost use lib.ListN.{getD};
-ghost use Rattle.table.specs.Copy.{lookRule};
-ghost use Rattle.read.specs.Handles.{mistimed as mistimedRule, leavesGuards, lacksGuard, lacksRoom, given as givenRule, smallest, handleSigns, copyOf, guardedCopy, bit as bitRule, handled, handleOn, createSigns, createOn};
+ghost use Rattle.table.specs.Copy.{lookBy};
+ghost use Rattle.read.specs.Handles.{mistimed as mistimedRule, leavesGuards, lacksGuard, lacksRoom, given as givenRule, smallest, handleSigns, copyOf, guardedCopy, bit as bitRule, handledBy, handleBy, handleOn, createSigns, createOn};
 
 // The calls by their numbers in a schedule.
 const DROP: usize = 2;
@@ -152,16 +153,24 @@ pub fn guarded_copy<'a>(
 }
 
 // The count of a key in a copy, 0 where it is absent.
-fn count(w: &[u64], key: u64) -> u64
-    ensures { λ r. ⌜ r ≡ getD (lookRule key (now (w .entry))) 1 0 ⌝ }
+fn count(how: Search, w: &[u64], key: u64) -> u64
+    ensures { λ r. ⌜ r ≡ getD (lookBy how key (now (w .entry))) 1 0 ⌝ }
 {
-    let pair = table::look_up(w, key);
+    let pair = table::look_up_by(how, w, key);
     if 1 < pair.len() { pair[1] } else { 0 }
 }
 
 // What an admitted call does on the handle in slot `i`; one that is dropped is handed out next.
-fn act<'a>(c: Control, i: usize, s: Slot, h: Handle, left: &'a [u64], right: &'a [u64]) -> Made
-    ensures { λ r. ⌜ r ≡ handled c i s h (now (left .entry)) (now (right .entry)) ⌝ }
+fn act<'a>(
+    how: Search,
+    c: Control,
+    i: usize,
+    s: Slot,
+    h: Handle,
+    left: &'a [u64],
+    right: &'a [u64],
+) -> Made
+    ensures { λ r. ⌜ r ≡ handledBy (lookBy how) c i s h (now (left .entry)) (now (right .entry)) ⌝ }
 {
     match h {
         Handle::Drop => {
@@ -181,13 +190,32 @@ fn act<'a>(c: Control, i: usize, s: Slot, h: Handle, left: &'a [u64], right: &'a
         }
         Handle::LookUp(j, key) => {
             let g = s.guards;
-            let n = count(guarded_copy(g, j, left, right), key);
+            let n = count(how, guarded_copy(g, j, left, right), key);
             guards::made_of(c, Answer::Done, n, s)
         }
         Handle::WasDropped => {
             let n = bit(c.null);
             guards::made_of(c, Answer::Done, n, s)
         }
+    }
+}
+
+// A call on the handle in slot `i`, by how a key is searched: refused with nothing changed, or made.
+pub fn handle_by<'a>(
+    how: Search,
+    c: Control,
+    i: usize,
+    s: Slot,
+    h: Handle,
+    left: &'a [u64],
+    right: &'a [u64],
+) -> Made
+    ensures { λ r. ⌜ r ≡ handleBy (lookBy how) c i s h (now (left .entry)) (now (right .entry)) ⌝ }
+{
+    let v = verdict(c, i == 0, s, h);
+    match v {
+        Verdict::Refused(a) => guards::made_of(c, a, 0, s),
+        Verdict::Admitted => act(how, c, i, s, h, left, right),
     }
 }
 
@@ -202,11 +230,7 @@ pub fn handle<'a>(
 ) -> Made
     ensures { λ r. ⌜ r ≡ handleOn c i s h (now (left .entry)) (now (right .entry)) ⌝ }
 {
-    let v = verdict(c, i == 0, s, h);
-    match v {
-        Verdict::Refused(a) => guards::made_of(c, a, 0, s),
-        Verdict::Admitted => act(c, i, s, h, left, right),
-    }
+    handle_by(Search::Walk, c, i, s, h, left, right)
 }
 
 // ---- create

@@ -7,7 +7,9 @@ use borrow.Author.Tests.{eq-eqb, ne-eqb, le-leb, lt-leb, lt-ltb, le-ltb, eqb-tru
 use lib.ListN.{length, take, drop, set}
 use lib.Dec.{eqb, leb}
 use Rattle.table.specs.declared.Answer.the-variants.{Done, Length, Broken, Operation}
-use Rattle.table.specs.Copy.{pairs, words, entries, spill, countAt, usedOf, pairOf, placeOf, grown, inserted, removed, closed, placed, added, dropped, zeros, applied, lawful, fitness, fits, Fit, applyRule, lookRule, usedRule, closeRule}
+use Rattle.table.specs.declared.Search.{Search}
+use Rattle.table.specs.Copy.{pairs, words, entries, spill, countAt, usedOf, hasKey, findBy, placeBy, grown, inserted, removed, closed, placedBy, addedBy, droppedBy, zeros, appliedBy, lawful, fitness, fits, Fit, applyBy, lookBy, usedRule, closeRule}
+use Rattle.table.proofs.Found.{pair-there, there, not-there}
 
 -- ---- fit
 
@@ -62,30 +64,31 @@ module _ (kind key amount : ℕ) where
 
 -- ---- the operations
 
-module _ (key amount : ℕ) (w : List ℕ) where
-  pub added-present :
-      pairOf key w < entries w → added key amount w ≡ set w (2 * pairOf key w + 3) (grown (countAt w (pairOf key w)) amount)
-  unfolding added
-  added-present h = rw (lt-ltb (pairOf key w) (entries w) h, added)
+module _ (how : Search) (key amount : ℕ) (w : List ℕ) where
+  pub added-there :
+      hasKey key w (findBy how key w) ≡ true →
+      addedBy how key amount w ≡ set w (2 * findBy how key w + 3) (grown (countAt w (findBy how key w)) amount)
+  unfolding addedBy
+  added-there h = rw (there key w how h, addedBy, pair-there key w how h)
 
-  pub added-absent : entries w ≤ pairOf key w → added key amount w ≡ placed key amount w
-  unfolding added
-  added-absent h = rw (le-ltb (pairOf key w) (entries w) h, added)
+  pub added-absent : hasKey key w (findBy how key w) ≡ false → addedBy how key amount w ≡ placedBy how key amount w
+  unfolding addedBy
+  added-absent h = rw (not-there key w how h, addedBy)
 
-  pub placed-full : pairs ≤ entries w → placed key amount w ≡ set w 1 (grown (spill w) 1)
-  placed-full f = rw (le-ltb (entries w) pairs f, placed)
+  pub placed-full : pairs ≤ entries w → placedBy how key amount w ≡ set w 1 (grown (spill w) 1)
+  placed-full f = rw (le-ltb (entries w) pairs f, placedBy)
 
-  pub placed-room : entries w < pairs → placed key amount w ≡ inserted (placeOf key w) key amount w
-  placed-room f = rw (lt-ltb (entries w) pairs f, placed)
+  pub placed-room : entries w < pairs → placedBy how key amount w ≡ inserted (placeBy how key w) key amount w
+  placed-room f = rw (lt-ltb (entries w) pairs f, placedBy)
 
-module _ (key : ℕ) (w : List ℕ) where
-  pub dropped-present : pairOf key w < entries w → dropped key w ≡ removed (pairOf key w) w
-  unfolding dropped
-  dropped-present h = rw (lt-ltb (pairOf key w) (entries w) h, dropped)
+module _ (how : Search) (key : ℕ) (w : List ℕ) where
+  pub dropped-there : hasKey key w (findBy how key w) ≡ true → droppedBy how key w ≡ removed (findBy how key w) w
+  unfolding droppedBy
+  dropped-there h = rw (there key w how h, droppedBy, pair-there key w how h)
 
-  pub dropped-absent : entries w ≤ pairOf key w → dropped key w ≡ w
-  unfolding dropped
-  dropped-absent h = rw (le-ltb (pairOf key w) (entries w) h, dropped)
+  pub dropped-absent : hasKey key w (findBy how key w) ≡ false → droppedBy how key w ≡ w
+  unfolding droppedBy
+  dropped-absent h = rw (not-there key w how h, droppedBy)
 
 module _ (g m : ℕ) (p : List ℕ) where
   pub close-room : g + m ≤ length p → closeRule g m p ≡ closed g m p
@@ -96,52 +99,53 @@ module _ (g m : ℕ) (p : List ℕ) where
   unfolding closeRule
   close-short h = rw (lt-leb (g + m) (length p) h, closeRule)
 
-module _ (kind key amount : ℕ) (w : List ℕ) where
-  pub applied-add : kind ≡ 1 → applied kind key amount w ≡ added key amount w
-  unfolding applied
-  applied-add e = rw (eq-eqb kind 1 e, applied)
+module _ (how : Search) (kind key amount : ℕ) (w : List ℕ) where
+  pub applied-add : kind ≡ 1 → appliedBy how kind key amount w ≡ addedBy how key amount w
+  unfolding appliedBy
+  applied-add e = rw (eq-eqb kind 1 e, appliedBy)
 
-  pub applied-drop : (kind ≡ 1 → ⊥) → kind ≡ 2 → applied kind key amount w ≡ dropped key w
-  unfolding applied
-  applied-drop n e = rw (ne-eqb kind 1 n, eq-eqb kind 2 e, applied)
+  pub applied-drop : (kind ≡ 1 → ⊥) → kind ≡ 2 → appliedBy how kind key amount w ≡ droppedBy how key w
+  unfolding appliedBy
+  applied-drop n e = rw (ne-eqb kind 1 n, eq-eqb kind 2 e, appliedBy)
 
-  pub applied-clear : (kind ≡ 1 → ⊥) → (kind ≡ 2 → ⊥) → kind ≡ 3 → applied kind key amount w ≡ zeros w
-  unfolding applied
-  applied-clear n m e = rw (ne-eqb kind 1 n, ne-eqb kind 2 m, eq-eqb kind 3 e, applied)
+  pub applied-clear : (kind ≡ 1 → ⊥) → (kind ≡ 2 → ⊥) → kind ≡ 3 → appliedBy how kind key amount w ≡ zeros w
+  unfolding appliedBy
+  applied-clear n m e = rw (ne-eqb kind 1 n, ne-eqb kind 2 m, eq-eqb kind 3 e, appliedBy)
 
-  pub applied-none : (kind ≡ 1 → ⊥) → (kind ≡ 2 → ⊥) → (kind ≡ 3 → ⊥) → applied kind key amount w ≡ w
-  unfolding applied
-  applied-none n m l = rw (ne-eqb kind 1 n, ne-eqb kind 2 m, ne-eqb kind 3 l, applied)
+  pub applied-none : (kind ≡ 1 → ⊥) → (kind ≡ 2 → ⊥) → (kind ≡ 3 → ⊥) → appliedBy how kind key amount w ≡ w
+  unfolding appliedBy
+  applied-none n m l = rw (ne-eqb kind 1 n, ne-eqb kind 2 m, ne-eqb kind 3 l, appliedBy)
 
   -- ---- the calls
 
-  pub apply-unfit : fits w ≡ false → applyRule kind key amount w ≡ record { answer = fitness w; copy = w }
-  unfolding applyRule
-  apply-unfit h = rw (h, applyRule)
+  pub apply-unfit : fits w ≡ false → applyBy how kind key amount w ≡ record { answer = fitness w; copy = w }
+  unfolding applyBy
+  apply-unfit h = rw (h, applyBy)
 
   pub apply-unlawful :
-      fits w ≡ true → lawful kind key amount ≡ false → applyRule kind key amount w ≡ record { answer = Operation; copy = w }
-  unfolding applyRule
-  apply-unlawful h l = rw (h, l, applyRule)
+      fits w ≡ true → lawful kind key amount ≡ false → applyBy how kind key amount w ≡ record { answer = Operation; copy = w }
+  unfolding applyBy
+  apply-unlawful h l = rw (h, l, applyBy)
 
   pub apply-made :
       fits w ≡ true → lawful kind key amount ≡ true →
-      applyRule kind key amount w ≡ record { answer = Done; copy = applied kind key amount w }
-  unfolding applyRule
-  apply-made h l = rw (h, l, applyRule)
+      applyBy how kind key amount w ≡ record { answer = Done; copy = appliedBy how kind key amount w }
+  unfolding applyBy
+  apply-made h l = rw (h, l, applyBy)
 
-module _ (key : ℕ) (w : List ℕ) where
-  pub look-unfit : fits w ≡ false → lookRule key w ≡ []
-  unfolding lookRule
-  look-unfit h = rw (h, lookRule)
+module _ (how : Search) (key : ℕ) (w : List ℕ) where
+  pub look-unfit : fits w ≡ false → lookBy how key w ≡ []
+  unfolding lookBy
+  look-unfit h = rw (h, lookBy)
 
-  pub look-present : fits w ≡ true → pairOf key w < entries w → lookRule key w ≡ take 2 (drop (2 * pairOf key w + 2) w)
-  unfolding lookRule
-  look-present h l = rw (h, lt-ltb (pairOf key w) (entries w) l, lookRule)
+  pub look-there :
+      fits w ≡ true → hasKey key w (findBy how key w) ≡ true → lookBy how key w ≡ take 2 (drop (2 * findBy how key w + 2) w)
+  unfolding lookBy
+  look-there h l = rw (h, there key w how l, lookBy, pair-there key w how l)
 
-  pub look-absent : fits w ≡ true → entries w ≤ pairOf key w → lookRule key w ≡ []
-  unfolding lookRule
-  look-absent h l = rw (h, le-ltb (pairOf key w) (entries w) l, lookRule)
+  pub look-absent : fits w ≡ true → hasKey key w (findBy how key w) ≡ false → lookBy how key w ≡ []
+  unfolding lookBy
+  look-absent h l = rw (h, not-there key w how l, lookBy)
 
 pub used-unfit : (w : List ℕ) → fits w ≡ false → usedRule w ≡ []
 unfolding usedRule

@@ -4,11 +4,12 @@ use mathlib.Core.Path.{_≡_, ap}
 use mathlib.Core.Bool.{false}
 use borrow.Author.Tests.{eqb-false}
 use lib.Dec.{eqb}
-use Rattle.table.specs.Seek.{seek}
-use Rattle.table.specs.Copy.{added, dropped, applied, lawful, fitness, applyRule, lookRule, usedRule, closeRule}
+use Rattle.table.specs.Seek.{seek, halve}
+use Rattle.table.specs.Copy.{addedBy, droppedBy, appliedBy, lawful, fitness, applyBy, lookRule, lookBy, usedRule, closeRule}
+use Rattle.table.specs.Many.{lookAllRule}
 
 unfoldable pub rules : Type 0
-unfolding seek added dropped applied lawful fitness applyRule lookRule usedRule closeRule
+unfolding seek halve addedBy droppedBy appliedBy lawful fitness applyBy lookRule lookBy usedRule closeRule lookAllRule
 rules = Unit {0}
 
 -- a number read off two results that differs, though they are said to be equal

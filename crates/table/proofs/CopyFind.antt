@@ -9,7 +9,7 @@ use native.Mathlib.Nat.{le-trans, le-refl}
 use lib.ListN.{set}
 use lib.Dec.{eqb, ltb}
 use borrow.Author.Tests.{ltb-true, ltb-false, leb-true, leb-false, eqb-true, eqb-false, lt-ltb, le-ltb, eq-eqb, ne-eqb}
-use Rattle.table.specs.Copy.{pairs, entries, spill, keyAt, countAt, pairOf, placeOf, present, grown, inserted, removed, placed, added, dropped, zeros, applied}
+use Rattle.table.specs.Copy.{pairs, entries, spill, keyAt, countAt, pairOf, placeOf, present, grown, inserted, removed, placed, added, dropped, zeros, applied, placedBy, addedBy, droppedBy, appliedBy}
 use Rattle.table.proofs.Map.{found}
 use Rattle.table.proofs.Split.{split}
 use Rattle.table.proofs.Seek.{seek-bounds, seek-before, seek-found, seek-unique, seek-none}
@@ -77,33 +77,33 @@ module _ (key : ℕ) (w : List ℕ) where
 
 pub dropped-cases : (C : List ℕ → Type 0) (key : ℕ) (w : List ℕ)
     → ((i : ℕ) → Pair key i w → C (removed i w)) → (Absent key w → C w) → C (dropped key w)
-unfolding dropped
+unfolding droppedBy
 dropped-cases C key w f g =
     split (present key w)
-    (λ e. rw (e, dropped) (f (pairOf key w) (pair-present key w e)))
-    (λ e. rw (e, dropped) (g (absent-not-present key w e)))
+    (λ e. rw (e, droppedBy) (f (pairOf key w) (pair-present key w e)))
+    (λ e. rw (e, droppedBy) (g (absent-not-present key w e)))
 
 module _ (C : List ℕ → Type 0) (key amount : ℕ) (w : List ℕ) where
   placed-cases : ((i : ℕ) → Place key i w → entries w < pairs → C (inserted i key amount w))
       → (pairs ≤ entries w → C (set w 1 (grown (spill w) 1))) → C (placed key amount w)
   placed-cases g h =
       split (ltb (entries w) pairs)
-      (λ l. rw (l, placed) (g (placeOf key w) (place-placeOf key w) (ltb-true _ _ l)))
-      (λ l. rw (l, placed) (h (ltb-false _ _ l)))
+      (λ l. rw (l, placedBy) (g (placeOf key w) (place-placeOf key w) (ltb-true _ _ l)))
+      (λ l. rw (l, placedBy) (h (ltb-false _ _ l)))
 
   pub added-cases :
       ((i : ℕ) → Pair key i w → C (set w (2 * i + 3) (grown (countAt w i) amount)))
       → ((i : ℕ) → Absent key w → Place key i w → entries w < pairs → C (inserted i key amount w))
       → (Absent key w → pairs ≤ entries w → C (set w 1 (grown (spill w) 1)))
       → C (added key amount w)
-  unfolding added
+  unfolding addedBy
   added-cases f g h =
       split (present key w)
-      (λ e. rw (e, added) (f (pairOf key w) (pair-present key w e)))
-      (λ e. rw (e, added) (placed-cases (λ i. g i (absent-not-present key w e)) (h (absent-not-present key w e))))
+      (λ e. rw (e, addedBy) (f (pairOf key w) (pair-present key w e)))
+      (λ e. rw (e, addedBy) (placed-cases (λ i. g i (absent-not-present key w e)) (h (absent-not-present key w e))))
 
   pub applied-cases : (kind : ℕ) → C (added key amount w) → C (dropped key w) → C (zeros w) → C w → C (applied kind key amount w)
-  unfolding applied
+  unfolding appliedBy
   applied-cases kind a d z s =
-      split (eqb kind 1) (λ e. rw (e, applied) a)
-      (λ e. rw (e, applied) (split (eqb kind 2) (λ e. rw e d) (λ e. rw e (split (eqb kind 3) (λ e. rw e z) (λ e. rw e s)))))
+      split (eqb kind 1) (λ e. rw (e, appliedBy) a)
+      (λ e. rw (e, appliedBy) (split (eqb kind 2) (λ e. rw e d) (λ e. rw e (split (eqb kind 3) (λ e. rw e z) (λ e. rw e s)))))

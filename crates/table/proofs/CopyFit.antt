@@ -7,7 +7,7 @@ use native.Mathlib.Omega.{arith}
 use lib.ListN.{length, set, length-replicate}
 use lib.Seq.{getD-set-other}
 use borrow.Author.Tests.{eq-eqb, le-leb}
-use Rattle.table.specs.Copy.{pairs, words, entries, added, dropped, applied, fits, Fit}
+use Rattle.table.specs.Copy.{pairs, words, entries, added, dropped, zeros, applied, fits, Fit}
 use Rattle.table.specs.Order.{empty}
 use Rattle.table.proofs.CopyFind.{added-cases, dropped-cases, applied-cases}
 use Rattle.table.proofs.CopyWords.{getD-zeros, entries-inserted, entries-removed}
@@ -37,6 +37,9 @@ fit-applied kind key amount w fit = record {
       applied-cases (λ v. entries v ≤ pairs) key amount w kind (within-added key amount w fit)
       (within-dropped key w fit) (rw getD-zeros (omega arith)) (fit .within);
 }
+
+pub fit-zeros : (w : List ℕ) → Fit w → Fit (zeros w)
+fit-zeros w f = record { sized = length-replicate (length w) 0 ∙ f .sized; within = rw (getD-zeros (length w) 0) (omega arith) }
 
 pub fit-empty : Fit empty
 fit-empty = record { sized = length-replicate {A = ℕ} words 0; within = rw getD-zeros (omega arith) }

@@ -10,7 +10,7 @@ use lib.ListN.{length, set, replicate}
 use lib.Dec.{eqb}
 use lib.Seq.{getD-set-same}
 use borrow.Author.Tests.{eqb-true, eqb-false, lt-ltb, le-ltb}
-use Rattle.table.specs.Copy.{pairs, words, entries, spill, countAt, grown, inserted, removed, zeros, added, dropped, applied, Fit}
+use Rattle.table.specs.Copy.{pairs, words, entries, spill, countAt, grown, inserted, removed, zeros, added, dropped, applied, Fit, appliedBy}
 use Rattle.table.specs.Order.{empty, Rising, Tidy, Op, after}
 use Rattle.table.proofs.Map.{Map, put, addMap, dropMap, emptyMap, appliedMap, afterMap, found, mapOf}
 use Rattle.table.proofs.Split.{split}
@@ -88,11 +88,11 @@ map-zeros n = map-path _ _ (found-zeros n) (getD-zeros n 0) (getD-zeros n 1)
 
 pub map-applied : (kind key amount : ℕ) (w : List ℕ) → Fit w → Rising w
     → mapOf (applied kind key amount w) ≡ appliedMap kind key amount (mapOf w)
-unfolding applied appliedMap
+unfolding appliedBy appliedMap
 map-applied kind key amount w fit r =
     split (eqb kind 1)
-    (λ e. rw (e, applied, appliedMap) (map-added key amount w fit))
-    (λ e. rw (e, applied, appliedMap) (split (eqb kind 2) (λ e. rw e (map-dropped key w fit r)) (λ e. rw e cleared)))
+    (λ e. rw (e, appliedBy, appliedMap) (map-added key amount w fit))
+    (λ e. rw (e, appliedBy, appliedMap) (split (eqb kind 2) (λ e. rw e (map-dropped key w fit r)) (λ e. rw e cleared)))
   where
     cleared : mapOf (elim (eqb kind 3) [ true ↦ zeros w | false ↦ w ]) ≡ (elim (eqb kind 3) [ true ↦ emptyMap | false ↦ mapOf w ])
     cleared = split (eqb kind 3) (λ e. rw e (map-zeros (length w))) (λ e. rw e)

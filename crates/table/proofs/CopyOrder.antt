@@ -6,12 +6,12 @@ use mathlib.Core.List.{List, [], _∷_}
 use native.Mathlib.Omega.{arith}
 use lib.ListN.{length, set, replicate}
 use lib.Seq.{getD-set-other}
-use Rattle.table.specs.Copy.{words, entries, spill, keyAt, countAt, grown, inserted, removed, added, dropped, applied, Fit}
+use Rattle.table.specs.Copy.{words, entries, spill, keyAt, countAt, grown, inserted, removed, added, dropped, zeros, applied, Fit}
 use Rattle.table.specs.Order.{empty, Rising, Clear, Tidy, Op, after}
 use Rattle.table.proofs.Split.{around, under}
 use Rattle.table.proofs.CopyFind.{Absent, Place, added-cases, dropped-cases, applied-cases}
 use Rattle.table.proofs.CopyWords.{getD-zeros, entries-inserted, inserted-behind, entries-removed, removed-left, removed-behind}
-use Rattle.table.proofs.CopyFit.{entries-set, fit-applied, fit-empty}
+use Rattle.table.proofs.CopyFit.{entries-set, fit-applied, fit-zeros, fit-empty}
 use Rattle.table.proofs.CopyPairs.{Wider, wider-inserted, wider-removed}
 
 -- ---- rising order
@@ -114,11 +114,11 @@ clear-added key amount w fit c =
 clear-dropped : (key : ℕ) (w : List ℕ) → Fit w → Clear w → Clear (dropped key w)
 clear-dropped key w fit c = dropped-cases Clear key w (λ i p. clear-removed i w (p .used) (omega arith) c) (λ a. c)
 
-pub clear-applied : (kind key amount : ℕ) (w : List ℕ) → Fit w → Clear w → Clear (applied kind key amount w)
+clear-applied : (kind key amount : ℕ) (w : List ℕ) → Fit w → Clear w → Clear (applied kind key amount w)
 clear-applied kind key amount w fit c =
     applied-cases Clear key amount w kind (clear-added key amount w fit c) (clear-dropped key w fit c) (λ x b. getD-zeros (length w) x) c
 
-pub clear-empty : Clear empty
+clear-empty : Clear empty
 clear-empty x b = getD-zeros words x
 
 -- ---- all of it, after any operations
@@ -129,6 +129,10 @@ tidy-applied kind key amount w t = record {
   rising = rising-applied kind key amount w (t .fit) (t .rising);
   clear = clear-applied kind key amount w (t .fit) (t .clear);
 }
+
+pub tidy-zeros : (w : List ℕ) → Tidy w → Tidy (zeros w)
+tidy-zeros w t =
+    record { fit = fit-zeros w (t .fit); rising = rising-zeros (length w); clear = λ x b. getD-zeros (length w) x }
 
 pub tidy-empty : Tidy empty
 tidy-empty = record { fit = fit-empty; rising = rising-empty; clear = clear-empty }

@@ -7,10 +7,12 @@ pub mod Lists
 pub mod Parity
 pub mod Split
 pub mod Seek
-pub mod Cases
+pub mod Halving
 pub mod Moves
 pub mod Parts
 pub mod CopyFind
+pub mod Found
+pub mod Cases
 pub mod CopyWords
 pub mod CopyPairs
 pub mod CopyLength
@@ -18,5 +20,6 @@ pub mod CopyFit
 pub mod CopyOrder
 pub mod CopyLook
 pub mod CopyMap
+pub mod Many
 pub mod CopyBelow
 pub mod Computes

@@ -8,7 +8,9 @@ use lib.ListN.{length, getD, take, drop, set, replicate}
 use lib.Dec.{eqb, ltb, leb}
 use Rattle.table.specs.declared.Answer.{Answer}
 use Rattle.table.specs.declared.Answer.the-variants.{Done, Length, Broken, Operation}
-use Rattle.table.specs.Seek.{seek}
+use Rattle.table.specs.declared.Search.{Search}
+use Rattle.table.specs.declared.Search.the-variants.{Walk, Halve}
+use Rattle.table.specs.Seek.{seek, halve}
 
 -- ---- sizes
 
@@ -53,6 +55,10 @@ passes false key k = leb key k
 abbrev pub first : Bool → ℕ → List ℕ → ℕ
 first exact key w = seek (λ i. passes exact key (keyAt w i)) 0 (entries w)
 
+-- the same from pair i on
+abbrev pub firstFrom : Bool → ℕ → List ℕ → ℕ → ℕ
+firstFrom exact key w i = seek (λ j. passes exact key (keyAt w j)) i (entries w - i)
+
 -- the key's pair
 abbrev pub pairOf : ℕ → List ℕ → ℕ
 pairOf key w = first true key w
@@ -63,6 +69,32 @@ placeOf key w = first false key w
 
 abbrev pub present : ℕ → List ℕ → Bool
 present key w = ltb (pairOf key w) (entries w)
+
+-- ---- the same by how it is searched: a walk, or halving, which finds what a walk finds where the keys rise (laws pair-rising, place-rising)
+
+-- where halving ends: where the keys rise, the place of a new pair
+abbrev pub halved : ℕ → List ℕ → ℕ
+halved key w = halve (λ i. passes false key (keyAt w i)) (entries w) 0 (entries w)
+
+-- pair i is used, and has the key
+abbrev pub hasKey : ℕ → List ℕ → ℕ → Bool
+hasKey key w i = ltb i (entries w) && eqb (keyAt w i) key
+
+-- where the key's pair is, if it has one
+abbrev pub findBy : Search → ℕ → List ℕ → ℕ
+findBy Walk key w = pairOf key w
+findBy Halve key w = halved key w
+
+abbrev pub pairBy : Search → ℕ → List ℕ → ℕ
+pairBy Walk key w = pairOf key w
+pairBy Halve key w = elim (hasKey key w (halved key w)) [ true ↦ halved key w | false ↦ entries w ]
+
+abbrev pub placeBy : Search → ℕ → List ℕ → ℕ
+placeBy Walk key w = placeOf key w
+placeBy Halve key w = halved key w
+
+abbrev pub presentBy : Search → ℕ → List ℕ → Bool
+presentBy how key w = ltb (pairBy how key w) (entries w)
 
 -- ---- the operations
 
@@ -89,30 +121,43 @@ removed i w =
     set (take (2 * i + 2) w ++ closed 2 (2 * (entries w - i - 1)) (drop (2 * i + 2) w)) 0 (entries w - 1)
 
 -- ADD of a key that is absent: a new pair, or, where the copy is full, a larger spill
-abbrev pub placed : ℕ → ℕ → List ℕ → List ℕ
-placed key amount w =
-    elim (ltb (entries w) pairs) [ true ↦ inserted (placeOf key w) key amount w | false ↦ set w 1 (grown (spill w) 1) ]
+abbrev pub placedBy : Search → ℕ → ℕ → List ℕ → List ℕ
+placedBy how key amount w =
+    elim (ltb (entries w) pairs) [ true ↦ inserted (placeBy how key w) key amount w | false ↦ set w 1 (grown (spill w) 1) ]
 
-unfoldable pub added : ℕ → ℕ → List ℕ → List ℕ
-added key amount w =
-    elim (present key w) [
-      | true ↦ set w (2 * pairOf key w + 3) (grown (countAt w (pairOf key w)) amount)
-      | false ↦ placed key amount w
+unfoldable pub addedBy : Search → ℕ → ℕ → List ℕ → List ℕ
+addedBy how key amount w =
+    elim (presentBy how key w) [
+      | true ↦ set w (2 * pairBy how key w + 3) (grown (countAt w (pairBy how key w)) amount)
+      | false ↦ placedBy how key amount w
     ]
 
-unfoldable pub dropped : ℕ → List ℕ → List ℕ
-dropped key w = elim (present key w) [ true ↦ removed (pairOf key w) w | false ↦ w ]
+unfoldable pub droppedBy : Search → ℕ → List ℕ → List ℕ
+droppedBy how key w = elim (presentBy how key w) [ true ↦ removed (pairBy how key w) w | false ↦ w ]
 
 abbrev pub zeros : List ℕ → List ℕ
 zeros w = replicate (length w) 0
 
 -- an operation as it is logged: 1 is ADD, 2 is DROP, 3 is CLEAR
-unfoldable pub applied : ℕ → ℕ → ℕ → List ℕ → List ℕ
-applied kind key amount w =
+unfoldable pub appliedBy : Search → ℕ → ℕ → ℕ → List ℕ → List ℕ
+appliedBy how kind key amount w =
     elim (eqb kind 1) [
-      | true ↦ added key amount w
-      | false ↦ elim (eqb kind 2) [ true ↦ dropped key w | false ↦ elim (eqb kind 3) [ true ↦ zeros w | false ↦ w ] ]
+      | true ↦ addedBy how key amount w
+      | false ↦ elim (eqb kind 2) [ true ↦ droppedBy how key w | false ↦ elim (eqb kind 3) [ true ↦ zeros w | false ↦ w ] ]
     ]
+
+-- the operations themselves, of any words: the first pair that has the key, and its place
+abbrev pub placed : ℕ → ℕ → List ℕ → List ℕ
+placed = placedBy Walk
+
+abbrev pub added : ℕ → ℕ → List ℕ → List ℕ
+added = addedBy Walk
+
+abbrev pub dropped : ℕ → List ℕ → List ℕ
+dropped = droppedBy Walk
+
+abbrev pub applied : ℕ → ℕ → ℕ → List ℕ → List ℕ
+applied = appliedBy Walk
 
 -- ADD has an amount of at least 1, DROP none, CLEAR neither key nor amount
 unfoldable pub lawful : ℕ → ℕ → ℕ → Bool
@@ -137,28 +182,42 @@ pub record Fit (w : List ℕ) : Type 0 where
   pub sized : length w ≡ words
   pub within : entries w ≤ pairs
 
+-- there are the words of as many pairs as are used, and no more than have room
+pub record Holds (w : List ℕ) : Type 0 where
+  pub room : 2 * entries w + 2 ≤ length w
+  pub within : entries w ≤ pairs
+
 -- what comes back, and the words
 pub record Out : Type 0 where
   pub answer : Answer
   pub copy : List ℕ
 
 -- an operation on a copy: refused with nothing changed, or made
-unfoldable pub applyRule : ℕ → ℕ → ℕ → List ℕ → Out
-applyRule kind key amount w =
+unfoldable pub applyBy : Search → ℕ → ℕ → ℕ → List ℕ → Out
+applyBy how kind key amount w =
     elim (fits w) [
       | true ↦
           elim (lawful kind key amount) [
-            | true ↦ record { answer = Done; copy = applied kind key amount w }
+            | true ↦ record { answer = Done; copy = appliedBy how kind key amount w }
             | false ↦ record { answer = Operation; copy = w }
           ]
       | false ↦ record { answer = fitness w; copy = w }
     ]
+
+abbrev pub applyRule : ℕ → ℕ → ℕ → List ℕ → Out
+applyRule = applyBy Walk
 
 -- the two words of the key's pair; none where it is absent or the copy is unfit
 unfoldable pub lookRule : ℕ → List ℕ → List ℕ
 lookRule key w =
     elim (fits w)
     [ true ↦ elim (present key w) [ true ↦ take 2 (drop (2 * pairOf key w + 2) w) | false ↦ [] ] | false ↦ [] ]
+
+-- the same, by how it is searched
+unfoldable pub lookBy : Search → ℕ → List ℕ → List ℕ
+lookBy how key w =
+    elim (fits w)
+    [ true ↦ elim (presentBy how key w) [ true ↦ take 2 (drop (2 * pairBy how key w + 2) w) | false ↦ [] ] | false ↦ [] ]
 
 unfoldable pub usedRule : List ℕ → List ℕ
 usedRule w = elim (fits w) [ true ↦ usedOf w | false ↦ [] ]

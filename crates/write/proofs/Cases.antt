@@ -12,6 +12,7 @@ use Rattle.table.specs.declared.Answer.{Answer}
 use Rattle.table.specs.Answers.{number}
 use Rattle.table.proofs.Split.{by, below}
 use Rattle.table.proofs.Booleans.{both, clash}
+use Rattle.table.specs.declared.Search.the-variants.{Walk}
 use Rattle.read.specs.declared.Phase.{Phase}
 use Rattle.read.specs.declared.Phase.the-variants.{Idle, Begin, Poll, Copy, Drain, Keep, Swap, Snap, Null, LastSnap, LastPoll, Finish}
 use Rattle.read.specs.declared.Job.{Job}
@@ -26,7 +27,7 @@ use Rattle.read.specs.Handles.{smallest}
 use Rattle.write.specs.declared.Moved.{Moved}
 use Rattle.write.specs.declared.Opening.{Opening}
 use Rattle.write.specs.Steps.{at, keeping, draining, polled, polling, beginning, published, lastPolling, lastSnapping, snapping, ended, refused}
-use Rattle.write.specs.Begins.{writerSigns, columnOf, batchRoom, allLawful, lawfulBatch, crowds, appendFirst, appendLater, appendOn, opened, openOn}
+use Rattle.write.specs.Begins.{writerSigns, columnOf, batchRoom, allLawful, lawfulBatch, crowds, appendFirst, appendLater, appendOn, opened, openOn, appendBy}
 use Rattle.write.specs.Runs.{afterStep, ranOut, runWhile}
 use Rattle.read.proofs.Verdicts.{Refusal, refused-mild, silent}
 use Rattle.write.proofs.Verdicts.{judging, append-idle, open-idle}
@@ -84,12 +85,12 @@ pub record Appends (os : List Op) (c : Control) : Type 0 where
   pub lawfully : allLawful os ≡ true
 
 module _ (P : Lent Moved → Type 0) (os : List Op) (c : Control) (s : Slot) (e : ℕ) (l r g : List ℕ)
-    (first : c .first ≡ true → Appends os c → P (appendFirst os c s e l r g))
+    (first : c .first ≡ true → Appends os c → P (appendFirst Walk os c s e l r g))
     (later : c .first ≡ false → c .length + length os ≤ logRoom → Appends os c → P (appendLater os c s e l r g))
     (refusal : (a : Answer) → Refusal a → P (lent (refused a c s e) l r g))
   where
     pub append-cases : P (appendOn os c s e l r g)
-    unfolding appendOn
+    unfolding appendBy
     append-cases =
         let unlawful = not (lawfulBatch os) in
         let full = crowds (length os) c in

@@ -22,7 +22,7 @@ use Rattle.read.specs.Machine.{withFree, slotCount, logRoom, locks, nulls, inRa
 use Rattle.write.specs.declared.Moved.{Moved}
 use Rattle.write.specs.declared.Opening.{Opening}
 use Rattle.write.specs.declared.Opening.the-variants as opening
-use Rattle.write.specs.Steps.{at, withLog, copied, swappedOver, nulled, finished, nextJob, keeping, draining, polled, polling, beginning, published, lastPolling, lastSnapping, snapping, ended, holds, stopped, pollMove, lastPollMove, stepAt}
+use Rattle.write.specs.Steps.{at, withLog, copied, swappedOver, nulled, finished, nextJob, keeping, draining, polled, polling, beginning, published, lastPolling, lastSnapping, snapping, ended, holds, stopped, pollMove, lastPollMove, stepAt, stepBy}
 use Rattle.write.specs.Begins.{appendOn, opened, openOn, taking}
 use Rattle.write.proofs.Cases.{withJob, append-cases, open-cases, keeping-cases, draining-cases, polled-cases, polling-cases, beginning-cases, lastPolling-cases, lastSnapping-cases, published-cases, snapping-cases}
 
@@ -176,7 +176,7 @@ module _ (c : Control) (w : Whole c) (s : Slot) (e : ℕ) where
 
   module _ (l r g : List ℕ) where
     whole-stepAt : (p : Phase) → Fits (c .length) (c .swapped) (c .null) p → Whole (stepAt p c s e l r g .made .control)
-    unfolding stepAt
+    unfolding stepBy
     whole-stepAt Idle f = w
     whole-stepAt Begin f = whole-at (beginning c) c (w .room) (w .within) (f .1) (fits-beginning c)
     whole-stepAt (Poll k) f = whole-poll (holds s e) k (f .1)

@@ -7,7 +7,7 @@ use native.Mathlib.Omega.{arith}
 use lib.Dec.{eqb, leb}
 use lib.ListN.{length}
 use borrow.Author.Tests.{eqb-true, leb-true, eq-eqb, le-leb, not-false}
-use Rattle.table.specs.Copy.{pairs, words, entries}
+use Rattle.table.specs.Copy.{pairs, words, entries, Fit}
 use Rattle.table.specs.declared.Answer.{Answer}
 use Rattle.table.specs.declared.Answer.the-variants as answer
 use Rattle.table.proofs.Seek.{seek-before, seek-none}
@@ -20,13 +20,22 @@ use Rattle.read.specs.Machine.{logWords, lawfulAt, firstUnlawful, sized, wholeC
 use Rattle.write.proofs.Count.{left}
 use Rattle.read.proofs.Verdicts.{refused-not}
 use Rattle.write.proofs.Control.{Whole, control-whole, whole-control}
-use Rattle.write.proofs.Words.{Words}
+use Rattle.write.proofs.Words.{Kept, Words}
 
 -- ---- what is judged, as facts
 
-pub record Good (c : Control) (l r g : List ℕ) : Type 0 where
+-- of both copies what P asks: the judgement asks that they are fit
+pub record Good (P : List ℕ → Type 0) (c : Control) (l r g : List ℕ) : Type 0 where
   pub whole : Whole c
-  pub words : Words (c .length) l r g
+  pub words : Words P (c .length) l r g
+
+pub good-fit : {P : List ℕ → Type 0} → Kept P → {c : Control} {l r g : List ℕ} → Good P c l r g → Good Fit c l r g
+good-fit kept {l = l} {r = r} h =
+    let w = h .words in
+    record {
+      whole = h .whole;
+      words = record { left = kept .fit l (w .left); right = kept .fit r (w .right); log = w .log; lawfully = w .lawfully };
+    }
 
 tested : (b : Bool) (v : Verdict) (a : Answer) → elim b [ true ↦ v | false ↦ Refused a ] ≡ Admitted → (b ≡ true) × (v ≡ Admitted)
 tested true v a e = (refl, e)
@@ -37,13 +46,13 @@ passed-on Admitted x e = (refl, e)
 passed-on (Refused a) x e = refused-not e
 
 module _ (c : Control) (l r g : List ℕ) where
-  good-sized : Good c l r g → sized l r g ≡ true
+  good-sized : Good Fit c l r g → sized l r g ≡ true
   good-sized h =
       λ i.
       eq-eqb (length l) words (h .words .left .sized) i
       && (eq-eqb (length r) words (h .words .right .sized) i && eq-eqb (length g) logWords (h .words .log) i)
 
-  good-glanced : Good c l r g → glanced c l r g ≡ Admitted
+  good-glanced : Good Fit c l r g → glanced c l r g ≡ Admitted
   unfolding glanced
   good-glanced h =
       let e : (leb (entries l) pairs && (leb (entries r) pairs && wholeControl c)) ≡ true =
@@ -51,11 +60,11 @@ module _ (c : Control) (l r g : List ℕ) where
       && (le-leb (entries r) pairs (h .words .right .within) i && whole-control c (h .whole) i) in
       rw (good-sized h, e, glanced)
 
-  good-lawful : Good c l r g → firstUnlawful (c .length) g ≡ c .length
+  good-lawful : Good Fit c l r g → firstUnlawful (c .length) g ≡ c .length
   good-lawful h = seek-none (λ i. not (lawfulAt g i)) (c .length) (λ i b. ap not (h .words .lawfully i b))
 
   -- what is seen at a glance, and that each logged operation is as its kind asks
-  glanced-good : glanced c l r g ≡ Admitted → c .length ≤ firstUnlawful (c .length) g → Good c l r g
+  glanced-good : glanced c l r g ≡ Admitted → c .length ≤ firstUnlawful (c .length) g → Good Fit c l r g
   unfolding glanced
   glanced-good e k =
       let b = tested (sized l r g) _ answer.Length e in
@@ -76,7 +85,7 @@ module _ (c : Control) (l r g : List ℕ) where
       }
 
 module _ (st : State) (l r g : List ℕ) where
-  pub good-judged : Good (st .control) l r g → orderly st ≡ true → judged st l r g ≡ Admitted
+  pub good-judged : Good Fit (st .control) l r g → orderly st ≡ true → judged st l r g ≡ Admitted
   unfolding judged
   good-judged h o =
       let c = st .control in
@@ -93,7 +102,7 @@ module _ (st : State) (l r g : List ℕ) where
       let a = passed-on (glanced (st .control) l r g) _ e in
       (a .0, tested (leb n (firstUnlawful n g) && orderly st) Admitted answer.Broken (a .1) .0)
 
-  pub judged-good : judged st l r g ≡ Admitted → Good (st .control) l r g
+  pub judged-good : judged st l r g ≡ Admitted → Good Fit (st .control) l r g
   judged-good e =
       let n = st .control .length in
       let a = admitted e in

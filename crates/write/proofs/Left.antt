@@ -20,7 +20,7 @@ use Rattle.read.specs.Handles.{freed, bit}
 use Rattle.read.specs.Calls.{Lent, lent}
 use Rattle.read.proofs.Phases.{idle-cases}
 use Rattle.write.specs.declared.Moved.{Moved}
-use Rattle.write.specs.Steps.{at, withLog, copied, swappedOver, nextJob, keeping, draining, polled, polling, beginning, published, lastPolling, lastSnapping, snapping, holds, vacated, moved, refused, stopped, pollMove, lastPollMove, stepAt}
+use Rattle.write.specs.Steps.{at, withLog, copied, swappedOver, nextJob, keeping, draining, polled, polling, beginning, published, lastPolling, lastSnapping, snapping, holds, vacated, moved, refused, stopped, pollMove, lastPollMove, stepAt, stepBy}
 use Rattle.write.specs.Scans.{polls, stopAnswer, haltAnswer}
 use Rattle.write.proofs.Count.{lastLeft, afterLeft, snapLeft, swapLeft, drainLeft, polledLeft, beginLeft, leftAt, left}
 use Rattle.write.proofs.Cases.{withJob, keeping-cases, draining-cases, polled-cases, polling-cases, beginning-cases, lastPolling-cases, lastSnapping-cases, snapping-cases}
@@ -144,7 +144,7 @@ module _ (c : Control) (s : Slot) (e : ℕ) where
 
   module _ (l r g : List ℕ) where
     step-told : (p : Phase) → Told (outcome p (c .job) (holds s e)) (stepAt p c s e l r g .made)
-    unfolding stepAt
+    unfolding stepBy
     step-told Idle = (refl, left-alone)
     step-told Begin = (refl, left-alone)
     step-told (Poll k) = poll-told (holds s e) k
@@ -174,19 +174,19 @@ made-unless-polls p j b u q = λ i. answered (q i && b) (u i) p j
 
 module _ (k : ℕ) (c : Control) (s : Slot) (e : ℕ) (l r g : List ℕ) where
   pub poll-stopped : holds s e ≡ true → stepAt (Poll k) c s e l r g ≡ lent (stopped (c .job) c s e) l r g
-  unfolding stepAt
+  unfolding stepBy
   poll-stopped h = ap (λ (b : Bool). lent (pollMove b k c s e) l r g) h
 
   pub poll-passed : holds s e ≡ false → stepAt (Poll k) c s e l r g ≡ lent (moved (at (polling c (k + 1)) c) s e) l r g
-  unfolding stepAt
+  unfolding stepBy
   poll-passed h = ap (λ (b : Bool). lent (pollMove b k c s e) l r g) h
 
   pub lastPoll-stopped : holds s e ≡ true → stepAt (LastPoll k) c s e l r g ≡ lent (refused answer.Held c s e) l r g
-  unfolding stepAt
+  unfolding stepBy
   lastPoll-stopped h = ap (λ (b : Bool). lent (lastPollMove b k c s e) l r g) h
 
   pub lastPoll-passed : holds s e ≡ false → stepAt (LastPoll k) c s e l r g ≡ lent (moved (at (lastPolling (k + 1)) c) s e) l r g
-  unfolding stepAt
+  unfolding stepBy
   lastPoll-passed h = ap (λ (b : Bool). lent (lastPollMove b k c s e) l r g) h
 
 -- ---- what becomes of a step
@@ -217,7 +217,7 @@ module _ (c : Control) (s : Slot) (e : ℕ) (l r g : List ℕ) where
 
   -- while a call is under way no step is refused
   pub step-stepped : (p : Phase) → underway p ≡ true → Stepped c s e l r g (stepAt p c s e l r g)
-  unfolding stepAt
+  unfolding stepBy
   step-stepped Idle u = absurd (true≢false (sym u))
   step-stepped Begin u = done refl
   step-stepped (Poll k) u = poll-stepped (holds s e) k
@@ -258,7 +258,7 @@ module _ (c : Control) (u : underway (c .phase) ≡ true) (s : Slot) (e : ℕ) w
 
   module _ (l r g : List ℕ) where
     tells-at : (p : Phase) → underway p ≡ true → Tells (stepAt p c s e l r g .made)
-    unfolding stepAt
+    unfolding stepBy
     tells-at Idle v = absurd (true≢false (sym v))
     tells-at Begin v = refl
     tells-at (Poll k) v = poll-tells (holds s e) k
@@ -302,7 +302,7 @@ module _ (c : Control) (s : Slot) (e : ℕ) where
     lowers-at :
         (p : Phase) → Fits (c .length) (c .swapped) (c .null) p → number (stepAt p c s e l r g .made .answer) ≡ 0 →
         leftAt p c ≡ suc (left (stepAt p c s e l r g .made .control))
-    unfolding stepAt
+    unfolding stepBy
     lowers-at Idle f z = absurd (omega arith)
     lowers-at Begin f z = rw (left-beginning c) (omega arith)
     lowers-at (Poll k) f z = lowers-poll (holds s e) k (f .0) z

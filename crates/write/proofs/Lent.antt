@@ -7,10 +7,11 @@ use native.Mathlib.Omega.{arith}
 use borrow.Author.Tests.{lt-ltb, le-ltb, le-leb, lt-leb}
 use lib.ListN.{length, getD, set, drop-of-length-le}
 use lib.Seq.{take-all}
+use Rattle.table.specs.declared.Search.{Search}
 use Rattle.read.specs.Machine.{logRoom}
-use Rattle.table.specs.Copy.{closeRule, applyRule, Out}
+use Rattle.table.specs.Copy.{closeRule, applyBy, Out}
 use Rattle.table.proofs.Moves.{over as upTo}
-use Rattle.write.specs.Steps.{ofLeft, ofRight, logApplied, over, unlogged}
+use Rattle.write.specs.Steps.{ofLeft, ofRight, logAppliedBy, over, unlogged}
 use Rattle.write.specs.Begins.{logged}
 
 -- ---- which copy
@@ -29,13 +30,13 @@ of-right side f l r q h = (rw (q, ofLeft), rw (q, ofRight) h)
 -- ---- an operation of the log
 
 pub logged-applied :
-    (g : List ℕ) (i : ℕ) (w : List ℕ) {kind key amount : ℕ} {o : Out} →
-    i < logRoom → kind ≡ getD g (3 * i) 0 → key ≡ getD g (3 * i + 1) 0 → amount ≡ getD g (3 * i + 2) 0 → o ≡ applyRule kind key amount w →
-    o .copy ≡ logApplied g i w
-logged-applied g i w h x y z e = ap (λ (o : Out). o .copy) e ∙ rw (x, y, z, logApplied, lt-ltb i logRoom h)
+    (how : Search) (g : List ℕ) (i : ℕ) (w : List ℕ) {kind key amount : ℕ} {o : Out} →
+    i < logRoom → kind ≡ getD g (3 * i) 0 → key ≡ getD g (3 * i + 1) 0 → amount ≡ getD g (3 * i + 2) 0 → o ≡ applyBy how kind key amount w →
+    o .copy ≡ logAppliedBy how g i w
+logged-applied how g i w h x y z e = ap (λ (o : Out). o .copy) e ∙ rw (x, y, z, logAppliedBy, lt-ltb i logRoom h)
 
-pub logged-beyond : (g : List ℕ) (i : ℕ) (w : List ℕ) → logRoom ≤ i → w ≡ logApplied g i w
-logged-beyond g i w h = rw (logApplied, le-ltb i logRoom h)
+pub logged-beyond : (how : Search) (g : List ℕ) (i : ℕ) (w : List ℕ) → logRoom ≤ i → w ≡ logAppliedBy how g i w
+logged-beyond how g i w h = rw (logAppliedBy, le-ltb i logRoom h)
 
 pub unlogged-room : (n m : ℕ) (g : List ℕ) {w : List ℕ} → n ≤ logRoom → m ≡ 3 * (n - 1) → w ≡ closeRule 3 m g → w ≡ unlogged n g
 unlogged-room n m g h q e = rw (unlogged, le-leb n logRoom h) (e ∙ ap (λ (m : ℕ). closeRule 3 m g) q)

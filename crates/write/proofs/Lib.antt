@@ -6,6 +6,7 @@ pub mod Count
 pub mod Left
 pub mod RunLaws
 pub mod Words
+pub mod Rising
 pub mod Judged
 pub mod Refusals
 pub mod Reorders

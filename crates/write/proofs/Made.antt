@@ -9,6 +9,7 @@ use lib.ListN.{length}
 use borrow.Author.Tests.{lt-ltb, le-ltb, ltb-true, ltb-false, not-false}
 use Rattle.table.specs.Copy.{lawful}
 use Rattle.table.specs.Order.{Op, op}
+use Rattle.table.specs.declared.Search.{Search}
 use Rattle.table.proofs.Booleans.{both}
 use Rattle.table.proofs.Split.{split}
 use Rattle.table.specs.declared.Answer.{Answer}
@@ -27,7 +28,7 @@ use Rattle.write.specs.declared.Moved.{Moved}
 use Rattle.write.specs.declared.Opening.{Opening}
 use Rattle.write.specs.declared.Opening.the-variants as opening
 use Rattle.write.specs.Steps.{withLog, ofLeft, ofRight, refused}
-use Rattle.write.specs.Begins.{writerSigns, batchRoom, allLawful, lawfulBatch, crowds, operatedAll, loggedAll, appended, appendOn, columnOf, begun, value, taking, opened, openOn}
+use Rattle.write.specs.Begins.{writerSigns, batchRoom, allLawful, lawfulBatch, crowds, operatedAllBy, loggedAll, appended, appendBy, columnOf, begun, value, taking, opened, openOn}
 use Rattle.read.proofs.Verdicts.{silent}
 use Rattle.write.proofs.Next.{polling-here}
 
@@ -50,23 +51,23 @@ module _ (n : ℕ) (c : Control) where
       (split (ltb m n) (λ e. e ∙ sym (lt-ltb logRoom (c .length + n) (let u = ltb-true m n e in omega arith)))
       (λ e. e ∙ sym (le-ltb logRoom (c .length + n) (let u = ltb-false m n e in omega arith))))
 
-module _ (os : List Op) (c : Control) (s : Slot) (e : ℕ) (l r g : List ℕ) where
+module _ (how : Search) (os : List Op) (c : Control) (s : Slot) (e : ℕ) (l r g : List ℕ) where
   pub appended-first :
       {m : Moved} {t : Slot} {l' r' : List ℕ} →
       c .first ≡ true → t ≡ withDue ((s .epoch + 2) % 2 ^ 64) (s .due) s → m ≡ value 0 c t e →
-      (l' ≡ ofLeft (c .right) (operatedAll os) l) × (r' ≡ ofRight (c .right) (operatedAll os) r) →
-      lent m l' r' g ≡ appended (c .first) os c s e l r g
+      (l' ≡ ofLeft (c .right) (operatedAllBy how os) l) × (r' ≡ ofRight (c .right) (operatedAllBy how os) r) →
+      lent m l' r' g ≡ appended how (c .first) os c s e l r g
   appended-first x y h w =
       (λ i. lent ((h ∙ ap (λ (t : Slot). value 0 c t e) y) i) (w .0 i) (w .1 i) g)
-      ∙ ap (λ (f : Bool). appended f os c s e l r g) (sym x)
+      ∙ ap (λ (f : Bool). appended how f os c s e l r g) (sym x)
 
   pub appended-later :
       {m : Moved} {d : Control} {n : ℕ} {g' : List ℕ} →
       c .first ≡ false → n ≡ length os → d ≡ withLog (c .length + n) (c .swapped) c → m ≡ value 0 d s e →
-      g' ≡ loggedAll (c .length) os g → lent m l r g' ≡ appended (c .first) os c s e l r g
+      g' ≡ loggedAll (c .length) os g → lent m l r g' ≡ appended how (c .first) os c s e l r g
   appended-later x z y h w =
       (λ i. lent ((h ∙ ap (λ (d : Control). value 0 d s e) (y ∙ ap (λ (n : ℕ). withLog (c .length + n) (c .swapped) c) z)) i) l r (w i))
-      ∙ ap (λ (f : Bool). appended f os c s e l r g) (sym x)
+      ∙ ap (λ (f : Bool). appended how f os c s e l r g) (sym x)
 
 -- by the verdict on what speaks against it
 module _ (os : List Op) (c : Control) (s : Slot) {u f : Bool} {n : ℕ} {v : Verdict} (x : u ≡ lawfulBatch os) (z : n ≡ length os)
@@ -86,18 +87,18 @@ module _ (os : List Op) (c : Control) (s : Slot) {u f : Bool} {n : ℕ} {v : Ver
           silent 11 signs a,
         )
 
-    module _ (e : ℕ) (l r g : List ℕ) where
+    module _ (how : Search) (e : ℕ) (l r g : List ℕ) where
       abbrev Judged : Verdict → Lent Moved
-      Judged v = elim v [ Admitted ↦ appended (c .first) os c s e l r g | Refused a ↦ lent (refused a c s e) l r g ]
+      Judged v = elim v [ Admitted ↦ appended how (c .first) os c s e l r g | Refused a ↦ lent (refused a c s e) l r g ]
 
-      append-by : {w : Verdict} → v ≡ w → Judged w ≡ appendOn os c s e l r g
-      unfolding appendOn
+      append-by : {w : Verdict} → v ≡ w → Judged w ≡ appendBy how os c s e l r g
+      unfolding appendBy
       append-by q = ap Judged (sym q ∙ signed)
 
-      pub append-admitted : {o : Lent Moved} → v ≡ Admitted → o ≡ appended (c .first) os c s e l r g → o ≡ appendOn os c s e l r g
+      pub append-admitted : {o : Lent Moved} → v ≡ Admitted → o ≡ appended how (c .first) os c s e l r g → o ≡ appendBy how os c s e l r g
       append-admitted q k = k ∙ append-by q
 
-      pub append-refused : {a : Answer} {m : Moved} → v ≡ Refused a → m ≡ refused a c s e → lent m l r g ≡ appendOn os c s e l r g
+      pub append-refused : {a : Answer} {m : Moved} → v ≡ Refused a → m ≡ refused a c s e → lent m l r g ≡ appendBy how os c s e l r g
       append-refused q k = ap (λ (m : Moved). lent m l r g) k ∙ append-by q
 
 -- the same of one operation, lawful by itself
@@ -113,12 +114,12 @@ module _ (kind key amount : ℕ) (c : Control) (s : Slot) {u f : Bool} {v : Verd
     pub one-fits : v ≡ Admitted → crowds 1 c ≡ false
     one-fits q = append-fits one c s lawful-one refl y h q .1
 
-    module _ (e : ℕ) (l r g : List ℕ) where
-      pub one-admitted : {o : Lent Moved} → v ≡ Admitted → o ≡ appended (c .first) one c s e l r g → o ≡ appendOn one c s e l r g
-      one-admitted = append-admitted one c s lawful-one refl y h e l r g
+    module _ (how : Search) (e : ℕ) (l r g : List ℕ) where
+      pub one-admitted : {o : Lent Moved} → v ≡ Admitted → o ≡ appended how (c .first) one c s e l r g → o ≡ appendBy how one c s e l r g
+      one-admitted = append-admitted one c s lawful-one refl y h how e l r g
 
-      pub one-refused : {a : Answer} {m : Moved} → v ≡ Refused a → m ≡ refused a c s e → lent m l r g ≡ appendOn one c s e l r g
-      one-refused = append-refused one c s lawful-one refl y h e l r g
+      pub one-refused : {a : Answer} {m : Moved} → v ≡ Refused a → m ≡ refused a c s e → lent m l r g ≡ appendBy how one c s e l r g
+      one-refused = append-refused one c s lawful-one refl y h how e l r g
 
 -- ---- publish, try, flush, take
 

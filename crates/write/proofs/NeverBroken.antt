@@ -6,9 +6,9 @@ use mathlib.Core.List.{List}
 use native.Mathlib.Omega.{arith}
 use lib.ListN.{length, set, replicate, length-set, length-replicate}
 use Rattle.table.specs.Copy.{words}
-use Rattle.table.proofs.CopyFit.{fit-empty}
+use Rattle.table.proofs.CopyOrder.{tidy-empty}
 use Rattle.table.proofs.Split.{below}
-use Rattle.table.specs.Order.{Op}
+use Rattle.table.specs.Order.{Op, Tidy}
 use Rattle.read.specs.declared.Slot.{Slot}
 use Rattle.read.specs.declared.Control.{Control}
 use Rattle.read.specs.declared.State.{State}
@@ -31,8 +31,8 @@ use Rattle.write.specs.Machine.{going, callOn, callRule}
 use Rattle.write.proofs.Verdicts.{judging}
 use Rattle.write.proofs.Cases.{open-cases, run-keeps}
 use Rattle.write.proofs.Control.{some-slot, whole-free, whole-step, whole-append, whole-open}
-use Rattle.write.proofs.Judged.{Good, good-judged}
-use Rattle.write.proofs.Words.{Words, words-step, words-append}
+use Rattle.write.proofs.Judged.{Good, good-fit, good-judged}
+use Rattle.write.proofs.Words.{kept-tidy, Words, words-step, words-append}
 use Rattle.write.proofs.Reorders.{Reorders, orderly-left, reorders-create, reorders-handle, reorders-step, reorders-append, reorders-open}
 
 -- a beginning leaves the log as it is
@@ -48,20 +48,21 @@ open-length o c s e = open-cases (λ m. m .control .length ≡ c .length) o c s 
 
 -- ---- a sound machine
 
+-- besides what is judged, both copies rise, with zeros behind their pairs
 pub record Sound (st : State) (l r g : List ℕ) : Type 0 where
-  pub good : Good (st .control) l r g
+  pub good : Good Tidy (st .control) l r g
   pub ordered : orderly st ≡ true
   pub slots : length (st .slots) ≡ slotCount
   pub snapshots : length (st .snapshots) ≡ slotCount
 
 pub sound-judged : {st : State} {l r g : List ℕ} → Sound st l r g → judged st l r g ≡ Admitted
-sound-judged {st} {l} {r} {g} h = good-judged st l r g (h .good) (h .ordered)
+sound-judged {st} {l} {r} {g} h = good-judged st l r g (good-fit kept-tidy (h .good)) (h .ordered)
 
 pub sound-fresh : Sound fresh (replicate words 0) (replicate words 0) (replicate logWords 0)
 sound-fresh = record {
   good = record {
     whole = record { room = omega arith; within = omega arith; placed = tt; locked = refl; pointed = refl };
-    words = record { left = fit-empty; right = fit-empty; log = length-replicate {A = ℕ} logWords 0; lawfully = λ i h. absurd (omega arith) };
+    words = record { left = tidy-empty; right = tidy-empty; log = length-replicate {A = ℕ} logWords 0; lawfully = λ i h. absurd (omega arith) };
   };
   ordered = orderly-fresh;
   slots = rw (length-replicate (slotCount - 1) noSlot) (omega (arith, some-slot));
@@ -76,7 +77,7 @@ SoundOut o = Sound (o .made .state) (o .left) (o .right) (o .log)
 
 -- a move at one slot that leaves control part, words and order good
 sound-lift :
-    {st : State} {l r g : List ℕ} (i : ℕ) (m : Lent Moved) → Sound st l r g → Good (m .made .control) (m .left) (m .right) (m .log) →
+    {st : State} {l r g : List ℕ} (i : ℕ) (m : Lent Moved) → Sound st l r g → Good Tidy (m .made .control) (m .left) (m .right) (m .log) →
     Reorders i (st .control .free) (slotAt st i) (m .made .control .free) (m .made .slot) → SoundOut (lift i st m)
 sound-lift {st} i m h d o = record {
   good = d;
@@ -118,7 +119,7 @@ module _ (st : State) (l r g : List ℕ) (h : Sound st l r g) where
       sound-lift 0 (appendOn os c s e l r g) h
       (record {
         whole = whole-append c (h .good .whole) s e os l r g;
-        words = words-append c s e l r g (h .good .words) os;
+        words = words-append kept-tidy c s e l r g (h .good .words) os;
       })
       (reorders-append c s e l r g os)
 
@@ -128,7 +129,7 @@ module _ (st : State) (l r g : List ℕ) (h : Sound st l r g) where
       let s = slotAt st 0 in
       let e = snapAt st 0 in
       sound-lift 0 (lent (openOn o c s e) l r g) h
-      (record { whole = whole-open c (h .good .whole) s e o; words = subst (λ (n : ℕ). Words n l r g) (sym (open-length o c s e)) (h .good .words) })
+      (record { whole = whole-open c (h .good .whole) s e o; words = subst (λ (n : ℕ). Words Tidy n l r g) (sym (open-length o c s e)) (h .good .words) })
       (reorders-open c s e o)
 
   pub sound-step : SoundOut (stepOn st l r g)
@@ -141,7 +142,7 @@ module _ (st : State) (l r g : List ℕ) (h : Sound st l r g) where
       sound-lift i (stepAt (c .phase) c s e l r g) h
       (record {
         whole = whole-step c (h .good .whole) s e l r g;
-        words = words-step c s e l r g (h .good .words) (h .good .whole);
+        words = words-step kept-tidy c s e l r g (h .good .words) (h .good .whole);
       })
       (reorders-step c s e l r g (c .phase))
 

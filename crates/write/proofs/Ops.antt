@@ -12,9 +12,10 @@ use Rattle.table.proofs.Booleans.{both}
 use Rattle.table.proofs.Split.{split}
 use borrow.Author.Tests.{leb-true, leb-false}
 use lib.Dec.{leb}
+use Rattle.table.specs.declared.Search.{Search}
 use Rattle.write.specs.Call.{opsIn}
-use Rattle.write.specs.Begins.{allLawful, logged, operatedAll, loggedAll}
-use Rattle.write.specs.Steps.{operated}
+use Rattle.write.specs.Begins.{allLawful, logged, operatedAllBy, loggedAll}
+use Rattle.write.specs.Steps.{operatedBy}
 
 pub ops-length : (ws : List ℕ) → length (opsIn ws) ≡ (length ws + 2) / 3
 ops-length [] = refl
@@ -78,8 +79,9 @@ module _ (i : ℕ) (ws : List ℕ) where
     length-more = ap (λ (os : List Op). length os) (ops-next i ws h)
 
     pub operated-more :
-        (w : List ℕ) → operatedAll rest w ≡ operatedAll more (operated (getD ws i 0) (getD ws (i + 1) 0) (getD ws (i + 2) 0) w)
-    operated-more w = ap (λ (os : List Op). operatedAll os w) (ops-next i ws h)
+        (how : Search) (w : List ℕ) →
+        operatedAllBy how rest w ≡ operatedAllBy how more (operatedBy how (getD ws i 0) (getD ws (i + 1) 0) (getD ws (i + 2) 0) w)
+    operated-more how w = ap (λ (os : List Op). operatedAllBy how os w) (ops-next i ws h)
 
     pub logged-more :
         (n : ℕ) (g : List ℕ) → loggedAll n rest g ≡ loggedAll (n + 1) more (logged n (getD ws i 0) (getD ws (i + 1) 0) (getD ws (i + 2) 0) g)

@@ -23,7 +23,7 @@ use Rattle.read.specs.declared.Made.{Made}
 use Rattle.read.specs.declared.Reply.{Reply}
 use Rattle.read.specs.declared.Verdict.the-variants.{Admitted}
 use Rattle.read.specs.Machine.{slotCount, noSlot, anyOpen, underway, judged, place}
-use Rattle.read.specs.Handles.{smallest, handleSigns, createSigns, madeOf, loaded, wentOn, handled, handleOn, createOn}
+use Rattle.read.specs.Handles.{smallest, handleSigns, createSigns, madeOf, loaded, wentOn, handled, handleOn, createOn, handleBy, handledBy}
 use Rattle.read.specs.Calls.{Lent, lent, slotAt, refusal, replyOf, handleReply, createReply}
 use Rattle.write.specs.declared.Moved.{Moved}
 use Rattle.write.specs.declared.Opening.{Opening}
@@ -78,7 +78,7 @@ module _ (c : Control) (s : Slot) where
   kind-wentOn Restore = over none-over
 
   kind-handled : (i : ℕ) (h : Handle) (l r : List ℕ) → KindMade c s (handled c i s h l r)
-  unfolding handled
+  unfolding handledBy
   kind-handled i Drop l r = made refl
   kind-handled i Enter l r = by (KindMade c s) (anyOpen (s .guards)) (λ e. kind-loaded (s .due)) (λ e. made refl)
   kind-handled i GoOn l r = kind-wentOn (s .due)
@@ -87,7 +87,7 @@ module _ (c : Control) (s : Slot) where
   kind-handled i WasDropped l r = made refl
 
   kind-handle : (i : ℕ) (h : Handle) (l r : List ℕ) → KindMade c s (handleOn c i s h l r)
-  unfolding handleOn
+  unfolding handleBy
   kind-handle i h l r =
       let signs = handleSigns c (eqb i 0) s h in
       judging (KindMade c s) (smallest signs) (λ v. kind-handled i h l r) (λ a v. kept a (refused-mild signs refl a v .0))

@@ -21,7 +21,7 @@ use Rattle.read.specs.declared.Handle.{Handle}
 use Rattle.read.specs.declared.Handle.the-variants.{Drop, Enter, GoOn, Release, LookUp, WasDropped}
 use Rattle.read.specs.declared.Made.{Made}
 use Rattle.read.specs.Machine.{slotCount, newSlot, anyOpen, behind, orderly, place}
-use Rattle.read.specs.Handles.{smallest, handleSigns, createSigns, freed, loaded, wentOn, handled, handleOn, createOn}
+use Rattle.read.specs.Handles.{smallest, handleSigns, createSigns, freed, loaded, wentOn, handled, handleOn, createOn, handleBy, handledBy}
 use Rattle.read.specs.Calls.{slotAt}
 use Rattle.read.proofs.Verdicts.{silent}
 use Rattle.read.proofs.Cases.{stateOf, create-room}
@@ -29,7 +29,7 @@ use Rattle.read.proofs.Orderly.{orderly-stored, orderly-created, orderly-freed}
 use Rattle.write.specs.declared.Moved.{Moved}
 use Rattle.write.specs.declared.Opening.{Opening}
 use Rattle.write.specs.declared.Opening.the-variants as opening
-use Rattle.write.specs.Steps.{vacated, firstThen, swappedOver, holds, stopped, pollMove, lastPollMove, stepAt}
+use Rattle.write.specs.Steps.{vacated, firstThen, swappedOver, holds, stopped, pollMove, lastPollMove, stepAt, stepBy}
 use Rattle.write.specs.Begins.{appendOn, opened, openOn}
 use Rattle.write.proofs.Verdicts.{judging}
 use Rattle.write.proofs.Cases.{append-cases, open-cases, snapping-cases}
@@ -74,7 +74,7 @@ module _ (c : Control) (i : ℕ) (s : Slot) where
   reorders-wentOn Restore = stays refl refl
 
   reorders-handled : i < slotCount → s .used ≡ true → (h : Handle) (l r : List ℕ) → ReordersMade (handled c i s h l r)
-  unfolding handled
+  unfolding handledBy
   reorders-handled b u Drop l r = frees b u
   reorders-handled b u Enter l r =
       by ReordersMade (anyOpen (s .guards)) (λ e. reorders-loaded (s .due)) (λ e. stays refl refl)
@@ -85,7 +85,7 @@ module _ (c : Control) (i : ℕ) (s : Slot) where
 
   pub reorders-handle :
       i < slotCount → (h : Handle) (l r : List ℕ) → (let m = handleOn c i s h l r in Reorders i (c .free) s (m .free) (m .slot))
-  unfolding handleOn
+  unfolding handleBy
   reorders-handle b h l r =
       let signs = handleSigns c (eqb i 0) s h in
       judging ReordersMade (smallest signs) (λ v. reorders-handled b (not-false (s .used) (silent 4 signs v)) h l r) (λ a v. stays refl refl)
@@ -120,7 +120,7 @@ module _ (c : Control) (s : Slot) (e : ℕ) where
 
   module _ (l r g : List ℕ) where
     pub reorders-step : (p : Phase) → (let m = stepAt p c s e l r g .made in Reorders (place p) (c .free) s (m .control .free) (m .slot))
-    unfolding stepAt
+    unfolding stepBy
     reorders-step Idle = stays refl refl
     reorders-step Begin = stays refl refl
     reorders-step (Poll k) = reorders-poll (holds s e) k

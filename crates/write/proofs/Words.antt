@@ -7,13 +7,15 @@ use native.Mathlib.Omega.{arith}
 use lib.ListN.{length, getD, set, length-set, length-replicate, drop-of-length-le}
 use lib.Seq.{take-all, getD-set-same, getD-set-other}
 use borrow.Author.Tests.{le-leb}
-use Rattle.table.specs.Copy.{zeros, closed, lawful, Fit}
-use Rattle.table.specs.Order.{Op}
+use Rattle.table.specs.Copy.{zeros, applied, closed, lawful, Fit}
+use Rattle.table.specs.declared.Search.the-variants.{Walk}
+use Rattle.table.specs.Order.{Op, Tidy}
 use Rattle.table.proofs.Booleans.{both}
 use Rattle.table.proofs.Split.{split, under, below}
 use Rattle.table.proofs.Cases.{close-room, apply-made, apply-unlawful}
-use Rattle.table.proofs.CopyWords.{getD-zeros, length-closed, closed-moved}
-use Rattle.table.proofs.CopyFit.{fit-applied, fit-fits}
+use Rattle.table.proofs.CopyWords.{length-closed, closed-moved}
+use Rattle.table.proofs.CopyFit.{fit-applied, fit-zeros, fit-fits}
+use Rattle.table.proofs.CopyOrder.{tidy-applied, tidy-zeros}
 use Rattle.read.specs.declared.Slot.{Slot}
 use Rattle.read.specs.declared.Phase.{Phase}
 use Rattle.read.specs.declared.Phase.the-variants.{Idle, Begin, Poll, Copy, Drain, Keep, Swap, Snap, Null, Lock, LastSnap, LastPoll, Finish, Gone}
@@ -23,54 +25,62 @@ use Rattle.read.specs.declared.Control.{Control}
 use Rattle.read.specs.Machine.{logRoom, logWords, lawfulAt}
 use Rattle.read.specs.Handles.{copyOf}
 use Rattle.read.specs.Calls.{Lent}
+use Rattle.read.proofs.Cases.{of-copy}
 use Rattle.write.specs.declared.Moved.{Moved}
-use Rattle.write.specs.Steps.{ofLeft, ofRight, operated, logApplied, over, unlogged, snapping, swappedOver, holds, stopped, pollMove, lastPollMove, stepAt}
+use Rattle.write.specs.Steps.{ofLeft, ofRight, operated, operatedBy, logApplied, over, unlogged, snapping, swappedOver, holds, stopped, pollMove, lastPollMove, stepAt, stepBy}
 use Rattle.write.specs.Begins.{allLawful, logged, operatedAll, loggedAll, appendOn}
 use Rattle.write.proofs.Cases.{snapping-cases, append-cases}
 use Rattle.write.proofs.Control.{Whole, Fits, fits}
 
 -- ---- the copies
 
-pub record Words (n : ℕ) (l r g : List ℕ) : Type 0 where
-  pub left : Fit l
-  pub right : Fit r
+-- what is asked of both copies, and every operation keeps: that they are fit, or that they are tidy
+pub record Kept (P : List ℕ → Type 0) : Type 0 where
+  pub fit : (w : List ℕ) → P w → Fit w
+  pub applied : (kind key amount : ℕ) (w : List ℕ) → P w → P (applied kind key amount w)
+  pub zeros : (w : List ℕ) → P w → P (zeros w)
+
+pub kept-fit : Kept Fit
+kept-fit = record { fit = λ w f. f; applied = fit-applied; zeros = fit-zeros }
+
+pub kept-tidy : Kept Tidy
+kept-tidy = record { fit = λ w t. t .fit; applied = tidy-applied; zeros = tidy-zeros }
+
+pub record Words (P : List ℕ → Type 0) (n : ℕ) (l r g : List ℕ) : Type 0 where
+  pub left : P l
+  pub right : P r
   pub log : length g ≡ logWords
   pub lawfully : (i : ℕ) → i < n → lawfulAt g i ≡ true
 
-pub fit-operated : (kind key amount : ℕ) (w : List ℕ) → Fit w → Fit (operated kind key amount w)
-fit-operated kind key amount w f =
-    split (lawful kind key amount)
-    (λ e. rw (operated, apply-made kind key amount w (fit-fits w f) e) (fit-applied kind key amount w f))
-    (λ e. rw (operated, apply-unlawful kind key amount w (fit-fits w f) e) f)
+module _ (P : List ℕ → Type 0) (kept : Kept P) where
+  pub keep-operated : (kind key amount : ℕ) (w : List ℕ) → P w → P (operated kind key amount w)
+  keep-operated kind key amount w x =
+      let f = fit-fits w (kept .fit w x) in
+      split (lawful kind key amount)
+      (λ e. rw (operatedBy, apply-made Walk kind key amount w f e) (kept .applied kind key amount w x))
+      (λ e. rw (operatedBy, apply-unlawful Walk kind key amount w f e) x)
 
-pub fit-operatedAll : (os : List Op) (w : List ℕ) → Fit w → Fit (operatedAll os w)
-fit-operatedAll [] w f = f
-fit-operatedAll (o ∷ os) w f =
-    fit-operatedAll os (operated (o .kind) (o .key) (o .amount) w) (fit-operated (o .kind) (o .key) (o .amount) w f)
+  pub keep-operatedAll : (os : List Op) (w : List ℕ) → P w → P (operatedAll os w)
+  keep-operatedAll [] w x = x
+  keep-operatedAll (o ∷ os) w x =
+      keep-operatedAll os (operated (o .kind) (o .key) (o .amount) w) (keep-operated (o .kind) (o .key) (o .amount) w x)
 
-fit-logApplied : (g : List ℕ) (i : ℕ) (w : List ℕ) → Fit w → Fit (logApplied g i w)
-fit-logApplied g i w f = below Fit i logRoom (λ h. fit-operated _ _ _ w f) (λ h. f)
+  keep-logApplied : (g : List ℕ) (i : ℕ) (w : List ℕ) → P w → P (logApplied g i w)
+  keep-logApplied g i w x = below P i logRoom (λ h. keep-operated _ _ _ w x) (λ h. x)
 
-fit-over : (v w : List ℕ) → Fit v → Fit w → Fit (over v w)
-fit-over v w f h =
-    let e : length v ≡ length w = f .sized ∙ sym (h .sized) in
-    rw (take-all (length w) v (omega arith), drop-of-length-le w {i = length v} (omega arith), append-nil v) f
+  keep-over : (v w : List ℕ) → P v → P w → P (over v w)
+  keep-over v w x y =
+      let e : length v ≡ length w = kept .fit v x .sized ∙ sym (kept .fit w y .sized) in
+      rw (take-all (length w) v (omega arith), drop-of-length-le w {i = length v} (omega arith), append-nil v) x
 
-fit-zeros : (w : List ℕ) → Fit w → Fit (zeros w)
-fit-zeros w f = record { sized = length-replicate (length w) 0 ∙ f .sized; within = rw (getD-zeros (length w) 0) (omega arith) }
+module _ (P : List ℕ → Type 0) (f : List ℕ → List ℕ) (h : (w : List ℕ) → P w → P (f w)) where
+  keep-left : (right : Bool) (l : List ℕ) → P l → P (ofLeft right f l)
+  keep-left true l x = h l x
+  keep-left false l x = x
 
-module _ (f : List ℕ → List ℕ) (h : (w : List ℕ) → Fit w → Fit (f w)) where
-  fit-left : (right : Bool) (l : List ℕ) → Fit l → Fit (ofLeft right f l)
-  fit-left true l x = h l x
-  fit-left false l x = x
-
-  fit-right : (right : Bool) (r : List ℕ) → Fit r → Fit (ofRight right f r)
-  fit-right true r x = x
-  fit-right false r x = h r x
-
-fit-copyOf : (right : Bool) (l r : List ℕ) → Fit l → Fit r → Fit (copyOf right l r)
-fit-copyOf true l r x y = y
-fit-copyOf false l r x y = x
+  keep-right : (right : Bool) (r : List ℕ) → P r → P (ofRight right f r)
+  keep-right true r x = x
+  keep-right false r x = h r x
 
 -- ---- the log
 
@@ -150,46 +160,46 @@ logs-all (o ∷ os) n g room lawfully h =
 
 -- ---- a step, and append
 
-abbrev pub WordsOf : Lent Moved → Type 0
-WordsOf m = Words (m .made .control .length) (m .left) (m .right) (m .log)
+abbrev pub WordsOf : (List ℕ → Type 0) → Lent Moved → Type 0
+WordsOf P m = Words P (m .made .control .length) (m .left) (m .right) (m .log)
 
 -- what changes the copies alone
 words-copies :
-    {n : ℕ} {l r g : List ℕ} (right : Bool) (f : List ℕ → List ℕ) → ((w : List ℕ) → Fit w → Fit (f w)) → Words n l r g →
-    Words n (ofLeft right f l) (ofRight right f r) g
-words-copies {l} {r} right f h w =
-    record { left = fit-left f h right l (w .left); right = fit-right f h right r (w .right); log = w .log; lawfully = w .lawfully }
+    {P : List ℕ → Type 0} {n : ℕ} {l r g : List ℕ} (right : Bool) (f : List ℕ → List ℕ) → ((w : List ℕ) → P w → P (f w)) →
+    Words P n l r g → Words P n (ofLeft right f l) (ofRight right f r) g
+words-copies {P} {l = l} {r = r} right f h w =
+    record { left = keep-left P f h right l (w .left); right = keep-right P f h right r (w .right); log = w .log; lawfully = w .lawfully }
 
-module _ (c : Control) (s : Slot) (e : ℕ) (l r g : List ℕ) (w : Words (c .length) l r g) where
-  words-snapping : (d : Control) (k : ℕ) → d .length ≡ c .length → Words (snapping d k .length) l r g
+module _ {P : List ℕ → Type 0} (kept : Kept P) (c : Control) (s : Slot) (e : ℕ) (l r g : List ℕ) (w : Words P (c .length) l r g) where
+  words-snapping : (d : Control) (k : ℕ) → d .length ≡ c .length → Words P (snapping d k .length) l r g
   words-snapping d k q =
-      snapping-cases (λ x. Words (x .length) l r g) d k (λ h. subst (λ (n : ℕ). Words n l r g) (sym q) w)
-      (λ h. subst (λ (n : ℕ). Words n l r g) (sym q) w)
+      snapping-cases (λ x. Words P (x .length) l r g) d k (λ h. subst (λ (n : ℕ). Words P n l r g) (sym q) w)
+      (λ h. subst (λ (n : ℕ). Words P n l r g) (sym q) w)
 
-  words-stopped : (j : Job) → Words (stopped j c s e .control .length) l r g
+  words-stopped : (j : Job) → Words P (stopped j c s e .control .length) l r g
   words-stopped Publish = w
   words-stopped Try = w
   words-stopped TakeFirst = w
   words-stopped TakeSecond = w
 
-  words-poll : (held : Bool) (k : ℕ) → Words (pollMove held k c s e .control .length) l r g
+  words-poll : (held : Bool) (k : ℕ) → Words P (pollMove held k c s e .control .length) l r g
   words-poll true k = words-stopped (c .job)
   words-poll false k = w
 
-  words-lastPoll : (held : Bool) (k : ℕ) → Words (lastPollMove held k c s e .control .length) l r g
+  words-lastPoll : (held : Bool) (k : ℕ) → Words P (lastPollMove held k c s e .control .length) l r g
   words-lastPoll true k = w
   words-lastPoll false k = w
 
-  words-stepAt : Whole c → (p : Phase) → Fits (c .length) (c .swapped) (c .null) p → WordsOf (stepAt p c s e l r g)
-  unfolding stepAt
+  words-stepAt : Whole c → (p : Phase) → Fits (c .length) (c .swapped) (c .null) p → WordsOf P (stepAt p c s e l r g)
+  unfolding stepBy
   words-stepAt v Idle f = w
   words-stepAt v Begin f = w
   words-stepAt v (Poll k) f = words-poll (holds s e) k
   words-stepAt v Copy f =
       words-copies (c .right) (over (copyOf (c .right) l r))
-      (λ x h. fit-over (copyOf (c .right) l r) x (fit-copyOf (c .right) l r (w .left) (w .right)) h) w
+      (λ x h. keep-over P kept (copyOf (c .right) l r) x (of-copy P (c .right) (w .left) (w .right)) h) w
   words-stepAt v Drain f =
-      let x = words-copies (c .right) (logApplied g 0) (fit-logApplied g 0) w in
+      let x = words-copies (c .right) (logApplied g 0) (keep-logApplied P kept g 0) w in
       let some : 0 < c .length = omega (arith, v .within) in
       record {
         left = x .left;
@@ -197,7 +207,7 @@ module _ (c : Control) (s : Slot) (e : ℕ) (l r g : List ℕ) (w : Words (c .le
         log = length-unlogged (c .length) g some (v .room) (w .log);
         lawfully = lawful-unlogged (c .length) g some (v .room) (w .log) (w .lawfully);
       }
-  words-stepAt v (Keep k) f = words-copies (c .right) (logApplied g k) (fit-logApplied g k) w
+  words-stepAt v (Keep k) f = words-copies (c .right) (logApplied g k) (keep-logApplied P kept g k) w
   words-stepAt v Swap f = words-snapping (swappedOver c) 0 refl
   words-stepAt v (Snap k) f = words-snapping c (k + 1) refl
   words-stepAt v Null f = w
@@ -205,16 +215,16 @@ module _ (c : Control) (s : Slot) (e : ℕ) (l r g : List ℕ) (w : Words (c .le
   words-stepAt v (LastSnap k) f = w
   words-stepAt v (LastPoll k) f = words-lastPoll (holds s e) k
   words-stepAt v Finish f =
-      let x = words-copies (c .right) zeros fit-zeros w in
+      let x = words-copies (c .right) zeros (kept .zeros) w in
       record { left = x .left; right = x .right; log = length-replicate (length g) 0 ∙ w .log; lawfully = λ i h. absurd (omega arith) }
   words-stepAt v Gone f = w
 
-  pub words-step : Whole c → WordsOf (stepAt (c .phase) c s e l r g)
+  pub words-step : Whole c → WordsOf P (stepAt (c .phase) c s e l r g)
   words-step v = words-stepAt v (c .phase) (fits v)
 
-  pub words-append : (os : List Op) → WordsOf (appendOn os c s e l r g)
+  pub words-append : (os : List Op) → WordsOf P (appendOn os c s e l r g)
   words-append os =
-      append-cases WordsOf os c s e l r g (λ q h. words-copies (c .right) (operatedAll os) (fit-operatedAll os) w)
+      append-cases (WordsOf P) os c s e l r g (λ q h. words-copies (c .right) (operatedAll os) (keep-operatedAll P kept os) w)
       (λ q u h.
       let x = logs-all os (c .length) g u (h .lawfully) (w .log, w .lawfully) in
       record { left = w .left; right = w .right; log = x .0; lawfully = x .1 })

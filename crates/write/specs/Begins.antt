@@ -5,6 +5,8 @@ use mathlib.Core.List.{List, [], _∷_}
 use lib.ListN.{length, set}
 use lib.Dec.{eqb, ltb, leb}
 use Rattle.table.specs.Copy.{lawful}
+use Rattle.table.specs.declared.Search.{Search}
+use Rattle.table.specs.declared.Search.the-variants.{Walk}
 use Rattle.table.specs.Order.{Op}
 use Rattle.table.specs.declared.Answer.the-variants as answer
 use Rattle.read.specs.declared.Slot.{Slot}
@@ -20,7 +22,7 @@ use Rattle.read.specs.Calls.{Lent, lent}
 use Rattle.write.specs.declared.Moved.{Moved}
 use Rattle.write.specs.declared.Opening.{Opening}
 use Rattle.write.specs.declared.Opening.the-variants as opening
-use Rattle.write.specs.Steps.{withLog, beginning, polling, ofLeft, ofRight, operated, refused}
+use Rattle.write.specs.Steps.{withLog, beginning, polling, ofLeft, ofRight, operatedBy, refused}
 
 -- ---- what speaks against a writer's call
 
@@ -61,9 +63,12 @@ abbrev pub logged : ℕ → ℕ → ℕ → ℕ → List ℕ → List ℕ
 logged n kind key amount g = set (set (set g (3 * n) kind) (3 * n + 1) key) (3 * n + 2) amount
 
 -- operations one after the other: applied, and behind n others in the log
+abbrev pub operatedAllBy : Search → List Op → List ℕ → List ℕ
+operatedAllBy how [] w = w
+operatedAllBy how (o ∷ os) w = operatedAllBy how os (operatedBy how (o .kind) (o .key) (o .amount) w)
+
 abbrev pub operatedAll : List Op → List ℕ → List ℕ
-operatedAll [] w = w
-operatedAll (o ∷ os) w = operatedAll os (operated (o .kind) (o .key) (o .amount) w)
+operatedAll = operatedAllBy Walk
 
 abbrev pub loggedAll : ℕ → List Op → List ℕ → List ℕ
 loggedAll n [] g = g
@@ -73,22 +78,27 @@ abbrev pub madeAtOnce : Control → Slot → ℕ → Moved
 madeAtOnce c s e = record { answer = answer.Done; value = 0; control = c; slot = s; snapshot = e }
 
 -- while `first`: at once to the copy not pointed at, and slot 0's epoch grows by 2, whatever their number
-abbrev pub appendFirst : List Op → Control → Slot → ℕ → List ℕ → List ℕ → List ℕ → Lent Moved
-appendFirst os c s e l r g =
-    let f = operatedAll os in
+abbrev pub appendFirst : Search → List Op → Control → Slot → ℕ → List ℕ → List ℕ → List ℕ → Lent Moved
+appendFirst how os c s e l r g =
+    let f = operatedAllBy how os in
     lent (madeAtOnce c (withDue ((s .epoch + 2) % 2 ^ 64) (s .due) s) e) (ofLeft (c .right) f l) (ofRight (c .right) f r) g
 
 abbrev pub appendLater : List Op → Control → Slot → ℕ → List ℕ → List ℕ → List ℕ → Lent Moved
 appendLater os c s e l r g =
     lent (madeAtOnce (withLog (c .length + length os) (c .swapped) c) s e) l r (loggedAll (c .length) os g)
 
-abbrev pub appended : Bool → List Op → Control → Slot → ℕ → List ℕ → List ℕ → List ℕ → Lent Moved
-appended first os c s e l r g = elim first [ true ↦ appendFirst os c s e l r g | false ↦ appendLater os c s e l r g ]
+abbrev pub appended : Search → Bool → List Op → Control → Slot → ℕ → List ℕ → List ℕ → List ℕ → Lent Moved
+appended how first os c s e l r g =
+    elim first [ true ↦ appendFirst how os c s e l r g | false ↦ appendLater os c s e l r g ]
 
-unfoldable pub appendOn : List Op → Control → Slot → ℕ → List ℕ → List ℕ → List ℕ → Lent Moved
-appendOn os c s e l r g =
+-- by how the keys are searched of those that are applied at once
+unfoldable pub appendBy : Search → List Op → Control → Slot → ℕ → List ℕ → List ℕ → List ℕ → Lent Moved
+appendBy how os c s e l r g =
     elim (smallest (writerSigns 7 (not (lawfulBatch os)) (crowds (length os) c) c s))
-    [ Admitted ↦ appended (c .first) os c s e l r g | Refused a ↦ lent (refused a c s e) l r g ]
+    [ Admitted ↦ appended how (c .first) os c s e l r g | Refused a ↦ lent (refused a c s e) l r g ]
+
+abbrev pub appendOn : List Op → Control → Slot → ℕ → List ℕ → List ℕ → List ℕ → Lent Moved
+appendOn = appendBy Walk
 
 -- ---- publish, try, flush, take
 

@@ -4,7 +4,9 @@ use mathlib.Core.Bool.{Bool, true, false, not, _&&_}
 use mathlib.Core.List.{List, _++_}
 use lib.ListN.{length, getD, take, drop}
 use lib.Dec.{eqb, ltb, leb}
-use Rattle.table.specs.Copy.{zeros, applyRule, closeRule}
+use Rattle.table.specs.Copy.{zeros, applyBy, closeRule}
+use Rattle.table.specs.declared.Search.{Search}
+use Rattle.table.specs.declared.Search.the-variants.{Walk}
 use Rattle.table.specs.declared.Answer.{Answer}
 use Rattle.table.specs.declared.Answer.the-variants as answer
 use Rattle.read.specs.declared.Slot.{Slot}
@@ -120,15 +122,21 @@ ofLeft right f l = elim right [ true ↦ f l | false ↦ l ]
 abbrev pub ofRight : Bool → (List ℕ → List ℕ) → List ℕ → List ℕ
 ofRight right f r = elim right [ true ↦ r | false ↦ f r ]
 
--- an operation applied; one that is not as its kind asks, and a copy that is unfit, change nothing
+-- an operation applied, by how its key is searched; one that is not as its kind asks, and a copy that is unfit, change nothing
+abbrev pub operatedBy : Search → ℕ → ℕ → ℕ → List ℕ → List ℕ
+operatedBy how kind key amount w = applyBy how kind key amount w .copy
+
 abbrev pub operated : ℕ → ℕ → ℕ → List ℕ → List ℕ
-operated kind key amount w = applyRule kind key amount w .copy
+operated = operatedBy Walk
 
 -- operation i of the log, applied
-abbrev pub logApplied : List ℕ → ℕ → List ℕ → List ℕ
-logApplied g i w =
+abbrev pub logAppliedBy : Search → List ℕ → ℕ → List ℕ → List ℕ
+logAppliedBy how g i w =
     elim (ltb i logRoom)
-    [ true ↦ operated (getD g (3 * i) 0) (getD g (3 * i + 1) 0) (getD g (3 * i + 2) 0) w | false ↦ w ]
+    [ true ↦ operatedBy how (getD g (3 * i) 0) (getD g (3 * i + 1) 0) (getD g (3 * i + 2) 0) w | false ↦ w ]
+
+abbrev pub logApplied : List ℕ → ℕ → List ℕ → List ℕ
+logApplied = logAppliedBy Walk
 
 -- the words of one copy over those of another, as many as both have
 abbrev pub over : List ℕ → List ℕ → List ℕ
@@ -138,7 +146,7 @@ over from to = take (length to) from ++ drop (length from) to
 abbrev pub unlogged : ℕ → List ℕ → List ℕ
 unlogged n g = elim (leb n logRoom) [ true ↦ closeRule 3 (3 * (n - 1)) g | false ↦ g ]
 
--- ---- one step
+-- ---- one step, by how the key of an operation is searched
 
 -- a step that is made; its value says whether the call ended
 abbrev pub moved : Control → Slot → ℕ → Moved
@@ -162,25 +170,28 @@ abbrev pub lastPollMove : Bool → ℕ → Control → Slot → ℕ → Moved
 lastPollMove held k c s e =
     elim held [ true ↦ refused answer.Held c s e | false ↦ moved (at (lastPolling (k + 1)) c) s e ]
 
-unfoldable pub stepAt : Phase → Control → Slot → ℕ → List ℕ → List ℕ → List ℕ → Lent Moved
-stepAt Idle c s e l r g = lent (refused answer.NotNow c s e) l r g
-stepAt Begin c s e l r g = lent (moved (at (beginning c) c) s e) l r g
-stepAt (Poll k) c s e l r g = lent (pollMove (holds s e) k c s e) l r g
-stepAt Copy c s e l r g =
+unfoldable pub stepBy : Search → Phase → Control → Slot → ℕ → List ℕ → List ℕ → List ℕ → Lent Moved
+stepBy how Idle c s e l r g = lent (refused answer.NotNow c s e) l r g
+stepBy how Begin c s e l r g = lent (moved (at (beginning c) c) s e) l r g
+stepBy how (Poll k) c s e l r g = lent (pollMove (holds s e) k c s e) l r g
+stepBy how Copy c s e l r g =
     let f = over (copyOf (c .right) l r) in
     lent (moved (at (draining (c .swapped) (c .length)) (copied c)) s e) (ofLeft (c .right) f l) (ofRight (c .right) f r) g
-stepAt Drain c s e l r g =
-    let f = logApplied g 0 in
+stepBy how Drain c s e l r g =
+    let f = logAppliedBy how g 0 in
     lent (moved (drained c) s e) (ofLeft (c .right) f l) (ofRight (c .right) f r) (unlogged (c .length) g)
-stepAt (Keep k) c s e l r g =
-    let f = logApplied g k in
+stepBy how (Keep k) c s e l r g =
+    let f = logAppliedBy how g k in
     lent (moved (at (keeping (c .length) (k + 1)) c) s e) (ofLeft (c .right) f l) (ofRight (c .right) f r) g
-stepAt Swap c s e l r g = lent (moved (snapping (swappedOver c) 0) s e) l r g
-stepAt (Snap k) c s e l r g = lent (moved (snapping c (k + 1)) s (seen s e)) l r g
-stepAt Null c s e l r g = lent (moved (at Lock (nulled c)) s e) l r g
-stepAt Lock c s e l r g = lent (moved (at (lastSnapping 0) c) s e) l r g
-stepAt (LastSnap k) c s e l r g = lent (moved (at (lastSnapping (k + 1)) c) s (seen s e)) l r g
-stepAt (LastPoll k) c s e l r g = lent (lastPollMove (holds s e) k c s e) l r g
-stepAt Finish c s e l r g =
+stepBy how Swap c s e l r g = lent (moved (snapping (swappedOver c) 0) s e) l r g
+stepBy how (Snap k) c s e l r g = lent (moved (snapping c (k + 1)) s (seen s e)) l r g
+stepBy how Null c s e l r g = lent (moved (at Lock (nulled c)) s e) l r g
+stepBy how Lock c s e l r g = lent (moved (at (lastSnapping 0) c) s e) l r g
+stepBy how (LastSnap k) c s e l r g = lent (moved (at (lastSnapping (k + 1)) c) s (seen s e)) l r g
+stepBy how (LastPoll k) c s e l r g = lent (lastPollMove (holds s e) k c s e) l r g
+stepBy how Finish c s e l r g =
     lent (moved (at Gone (finished s c)) (vacated (c .free) s) e) (ofLeft (c .right) zeros l) (ofRight (c .right) zeros r) (zeros g)
-stepAt Gone c s e l r g = lent (refused answer.Gone c s e) l r g
+stepBy how Gone c s e l r g = lent (refused answer.Gone c s e) l r g
+
+abbrev pub stepAt : Phase → Control → Slot → ℕ → List ℕ → List ℕ → List ℕ → Lent Moved
+stepAt = stepBy Walk

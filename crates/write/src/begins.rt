@@ -15,6 +15,7 @@ use read::guards;
 use read::handles;
 use read::truth;
 use table::Answer;
+use table::Search;
 ghost use mathlib.Core.Path.{_≡_};
 ghost use mathlib.Core.Bool.{true, false};
 ghost use mathlib.Core.List.{[], _∷_};
@@ -26,7 +27,7 @@ ghost use Rattle.read.specs.Handles.{smallest, withDue};
 ghost use Rattle.read.specs.Calls.{lent};
 ghost use Rattle.write.specs.Steps.{polling, beginning};
 ghost use Rattle.write.specs.Call.{opsIn};
-ghost use Rattle.write.specs.Begins.{writerSigns, stepSigns, allLawful, crowds as crowdsRule, appended as appendedRule, appendOn, columnOf, begun as begunRule, value as valueRule, taking as takingRule, opened as openedRule, openOn};
+ghost use Rattle.write.specs.Begins.{writerSigns, stepSigns, allLawful, crowds as crowdsRule, appended as appendedRule, appendBy, appendOn, columnOf, begun as begunRule, value as valueRule, taking as takingRule, opened as openedRule, openOn};
 
 // The row of the phase after take's finish, in the table of admissions.
 const GONE: usize = 13;
@@ -110,6 +111,7 @@ fn crowds(n: usize, c: Control) -> bool
 
 // While `first` at once to the copy that the pointer does not name, and later into the log.
 fn appended(
+    how: Search,
     kind: u64,
     key: u64,
     amount: u64,
@@ -121,10 +123,10 @@ fn appended(
     log: &mut [u64],
 ) -> Moved
     requires { ⌜ crowdsRule 1 c ≡ false ⌝ }
-    ensures { λ r. ⌜ lent r (now (left .exit)) (now (right .exit)) (now (log .exit)) ≡ appendedRule (c .first) (op kind key amount ∷ []) c s e (now (left .entry)) (now (right .entry)) (now (log .entry)) ⌝ }
+    ensures { λ r. ⌜ lent r (now (left .exit)) (now (right .exit)) (now (log .exit)) ≡ appendedRule how (c .first) (op kind key amount ∷ []) c s e (now (left .entry)) (now (right .entry)) (now (log .entry)) ⌝ }
 {
     if c.first {
-        slices::operate(c.right, kind, key, amount, left, right);
+        slices::operate(how, c.right, kind, key, amount, left, right);
         return value(0, c, stirred(s), e);
     }
     let n = c.length;
@@ -132,7 +134,30 @@ fn appended(
     value(0, phases::with_log(n + 1, c.swapped, c), s, e)
 }
 
-// Append: an operation, refused or made. A batch of one, without a walk over words.
+// Append, by how its key is searched: an operation, refused or made. A batch of one, without a walk over words.
+pub fn append_by(
+    how: Search,
+    kind: u64,
+    key: u64,
+    amount: u64,
+    c: Control,
+    s: Slot,
+    e: u64,
+    left: &mut [u64],
+    right: &mut [u64],
+    log: &mut [u64],
+) -> Moved
+    ensures { λ r. ⌜ lent r (now (left .exit)) (now (right .exit)) (now (log .exit)) ≡ appendBy how (op kind key amount ∷ []) c s e (now (left .entry)) (now (right .entry)) (now (log .entry)) ⌝ }
+{
+    let unlawful = !table::lawful(kind, key, amount);
+    let v = writer_verdict(7, unlawful, crowds(1, c), c, s);
+    match v {
+        Verdict::Admitted => appended(how, kind, key, amount, c, s, e, left, right, log),
+        Verdict::Refused(a) => steps::refused(a, c, s, e),
+    }
+}
+
+// Append: an operation, refused or made.
 pub fn append_on(
     kind: u64,
     key: u64,
@@ -146,16 +171,12 @@ pub fn append_on(
 ) -> Moved
     ensures { λ r. ⌜ lent r (now (left .exit)) (now (right .exit)) (now (log .exit)) ≡ appendOn (op kind key amount ∷ []) c s e (now (left .entry)) (now (right .entry)) (now (log .entry)) ⌝ }
 {
-    let unlawful = !table::lawful(kind, key, amount);
-    let v = writer_verdict(7, unlawful, crowds(1, c), c, s);
-    match v {
-        Verdict::Admitted => appended(kind, key, amount, c, s, e, left, right, log),
-        Verdict::Refused(a) => steps::refused(a, c, s, e),
-    }
+    append_by(Search::Walk, kind, key, amount, c, s, e, left, right, log)
 }
 
 // The same, of many.
 fn extended(
+    how: Search,
     ops: &[u64],
     c: Control,
     s: Slot,
@@ -165,10 +186,10 @@ fn extended(
     log: &mut [u64],
 ) -> Moved
     requires { ⌜ (allLawful (opsIn (now ops)) ≡ true) × (crowdsRule (length (opsIn (now ops))) c ≡ false) ⌝ }
-    ensures { λ r. ⌜ lent r (now (left .exit)) (now (right .exit)) (now (log .exit)) ≡ appendedRule (c .first) (opsIn (now (ops .entry))) c s e (now (left .entry)) (now (right .entry)) (now (log .entry)) ⌝ }
+    ensures { λ r. ⌜ lent r (now (left .exit)) (now (right .exit)) (now (log .exit)) ≡ appendedRule how (c .first) (opsIn (now (ops .entry))) c s e (now (left .entry)) (now (right .entry)) (now (log .entry)) ⌝ }
 {
     if c.first {
-        slices::operate_all(c.right, ops, left, right);
+        slices::operate_all(how, c.right, ops, left, right);
         return value(0, c, stirred(s), e);
     }
     let n = c.length;
@@ -179,6 +200,28 @@ fn extended(
         s,
         e,
     )
+}
+
+// Extend, by how their keys are searched: operations in words, three each, all of them refused or made.
+pub fn extend_by(
+    how: Search,
+    ops: &[u64],
+    c: Control,
+    s: Slot,
+    e: u64,
+    left: &mut [u64],
+    right: &mut [u64],
+    log: &mut [u64],
+) -> Moved
+    ensures { λ r. ⌜ lent r (now (left .exit)) (now (right .exit)) (now (log .exit)) ≡ appendBy how (opsIn (now (ops .entry))) c s e (now (left .entry)) (now (right .entry)) (now (log .entry)) ⌝ }
+{
+    let unlawful = !slices::lawful_batch(ops);
+    let full = crowds(slices::count(ops), c);
+    let v = writer_verdict(7, unlawful, full, c, s);
+    match v {
+        Verdict::Admitted => extended(how, ops, c, s, e, left, right, log),
+        Verdict::Refused(a) => steps::refused(a, c, s, e),
+    }
 }
 
 // Extend: operations in words, three each, all of them refused or made.
@@ -193,13 +236,7 @@ pub fn extend_on(
 ) -> Moved
     ensures { λ r. ⌜ lent r (now (left .exit)) (now (right .exit)) (now (log .exit)) ≡ appendOn (opsIn (now (ops .entry))) c s e (now (left .entry)) (now (right .entry)) (now (log .entry)) ⌝ }
 {
-    let unlawful = !slices::lawful_batch(ops);
-    let full = crowds(slices::count(ops), c);
-    let v = writer_verdict(7, unlawful, full, c, s);
-    match v {
-        Verdict::Admitted => extended(ops, c, s, e, left, right, log),
-        Verdict::Refused(a) => steps::refused(a, c, s, e),
-    }
+    extend_by(Search::Walk, ops, c, s, e, left, right, log)
 }
 
 // ---- publish, try, flush, take

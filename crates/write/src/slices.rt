@@ -1,6 +1,7 @@
 // The lent words: what a step or an append does to the copy that the pointer does not name, and to the log.
 use crate::BATCH_ROOM;
 use read::LOG_ROOM;
+use table::Search;
 ghost use mathlib.Core.Path.{_≡_};
 ghost use mathlib.Core.Bool.{true};
 ghost use Prim.Native.Nat.{_+_, _≤_, _<_};
@@ -8,9 +9,9 @@ ghost use lib.ListN.{length, getD, set};
 ghost use Rattle.table.specs.Copy.{zeros};
 ghost use Rattle.read.specs.Machine.{logRoom};
 ghost use Rattle.read.specs.Handles.{copyOf};
-ghost use Rattle.write.specs.Steps.{ofLeft, ofRight, operated, logApplied, over, unlogged};
+ghost use Rattle.write.specs.Steps.{ofLeft, ofRight, operatedBy, logAppliedBy, over, unlogged};
 ghost use Rattle.write.specs.Call.{opsIn};
-ghost use Rattle.write.specs.Begins.{allLawful, lawfulBatch, logged, operatedAll, loggedAll};
+ghost use Rattle.write.specs.Begins.{allLawful, lawfulBatch, logged, operatedAllBy, loggedAll};
 
 // A word of the log, or 0 behind its end.
 fn fetch(log: &[u64], i: usize) -> u64
@@ -23,15 +24,15 @@ fn fetch(log: &[u64], i: usize) -> u64
 }
 
 // Operation `i` of the log, applied.
-fn apply_logged(w: &mut [u64], log: &[u64], i: usize)
-    ensures { λ _. ⌜ now (w .exit) ≡ logApplied (now (log .entry)) i (now (w .entry)) ⌝ }
+fn apply_logged(how: Search, w: &mut [u64], log: &[u64], i: usize)
+    ensures { λ _. ⌜ now (w .exit) ≡ logAppliedBy how (now (log .entry)) i (now (w .entry)) ⌝ }
 {
     if i < LOG_ROOM {
         let at = 3 * i;
         let kind = fetch(log, at);
         let key = fetch(log, at + 1);
         let amount = fetch(log, at + 2);
-        table::apply(w, kind, key, amount);
+        table::apply_by(how, w, kind, key, amount);
     }
 }
 
@@ -89,13 +90,13 @@ pub(crate) fn lawful_batch(ops: &[u64]) -> bool
 }
 
 // One after the other; a last one that is cut short is none.
-fn apply_all(w: &mut [u64], ops: &[u64])
+fn apply_all(how: Search, w: &mut [u64], ops: &[u64])
     requires { ⌜ allLawful (opsIn (now ops)) ≡ true ⌝ }
-    ensures { λ _. ⌜ now (w .exit) ≡ operatedAll (opsIn (now (ops .entry))) (now (w .entry)) ⌝ }
+    ensures { λ _. ⌜ now (w .exit) ≡ operatedAllBy how (opsIn (now (ops .entry))) (now (w .entry)) ⌝ }
 {
     let mut i = 0;
     while i + 2 < ops.len() {
-        table::apply(w, ops[i], ops[i + 1], ops[i + 2]);
+        table::apply_by(how, w, ops[i], ops[i + 1], ops[i + 2]);
         i += 3;
     }
 }
@@ -103,6 +104,7 @@ fn apply_all(w: &mut [u64], ops: &[u64])
 // ---- on the copy that the pointer does not name; `side`: it names the right one
 
 pub(crate) fn operate(
+    how: Search,
     side: bool,
     kind: u64,
     key: u64,
@@ -110,33 +112,40 @@ pub(crate) fn operate(
     left: &mut [u64],
     right: &mut [u64],
 )
-    ensures { λ _. ⌜ (now (left .exit) ≡ ofLeft side (operated kind key amount) (now (left .entry))) × (now (right .exit) ≡ ofRight side (operated kind key amount) (now (right .entry))) ⌝ }
+    ensures { λ _. ⌜ (now (left .exit) ≡ ofLeft side (operatedBy how kind key amount) (now (left .entry))) × (now (right .exit) ≡ ofRight side (operatedBy how kind key amount) (now (right .entry))) ⌝ }
 {
     if side {
-        table::apply(left, kind, key, amount);
+        table::apply_by(how, left, kind, key, amount);
     } else {
-        table::apply(right, kind, key, amount);
+        table::apply_by(how, right, kind, key, amount);
     }
 }
 
-pub(crate) fn operate_all(side: bool, ops: &[u64], left: &mut [u64], right: &mut [u64])
+pub(crate) fn operate_all(how: Search, side: bool, ops: &[u64], left: &mut [u64], right: &mut [u64])
     requires { ⌜ allLawful (opsIn (now ops)) ≡ true ⌝ }
-    ensures { λ _. ⌜ (now (left .exit) ≡ ofLeft side (operatedAll (opsIn (now (ops .entry)))) (now (left .entry))) × (now (right .exit) ≡ ofRight side (operatedAll (opsIn (now (ops .entry)))) (now (right .entry))) ⌝ }
+    ensures { λ _. ⌜ (now (left .exit) ≡ ofLeft side (operatedAllBy how (opsIn (now (ops .entry)))) (now (left .entry))) × (now (right .exit) ≡ ofRight side (operatedAllBy how (opsIn (now (ops .entry)))) (now (right .entry))) ⌝ }
 {
     if side {
-        apply_all(left, ops);
+        apply_all(how, left, ops);
     } else {
-        apply_all(right, ops);
+        apply_all(how, right, ops);
     }
 }
 
-pub(crate) fn replay(side: bool, i: usize, left: &mut [u64], right: &mut [u64], log: &[u64])
-    ensures { λ _. ⌜ (now (left .exit) ≡ ofLeft side (logApplied (now (log .entry)) i) (now (left .entry))) × (now (right .exit) ≡ ofRight side (logApplied (now (log .entry)) i) (now (right .entry))) ⌝ }
+pub(crate) fn replay(
+    how: Search,
+    side: bool,
+    i: usize,
+    left: &mut [u64],
+    right: &mut [u64],
+    log: &[u64],
+)
+    ensures { λ _. ⌜ (now (left .exit) ≡ ofLeft side (logAppliedBy how (now (log .entry)) i) (now (left .entry))) × (now (right .exit) ≡ ofRight side (logAppliedBy how (now (log .entry)) i) (now (right .entry))) ⌝ }
 {
     if side {
-        apply_logged(left, log, i);
+        apply_logged(how, left, log, i);
     } else {
-        apply_logged(right, log, i);
+        apply_logged(how, right, log, i);
     }
 }
 

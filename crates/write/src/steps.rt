@@ -8,10 +8,11 @@ use read::Phase;
 use read::Slot;
 use read::guards;
 use table::Answer;
+use table::Search;
 ghost use mathlib.Core.Path.{_≡_};
 ghost use Rattle.read.specs.Calls.{lent};
 ghost use Rattle.read.specs.Machine.{place as placeRule};
-ghost use Rattle.write.specs.Steps.{at, vacated as vacatedRule, holds as holdsRule, seen as seenRule, moved as movedRule, refused as refusedRule, stopped as stoppedRule, pollMove, lastPollMove, stepAt};
+ghost use Rattle.write.specs.Steps.{at, vacated as vacatedRule, holds as holdsRule, seen as seenRule, moved as movedRule, refused as refusedRule, stopped as stoppedRule, pollMove, lastPollMove, stepBy, stepAt};
 
 // A poll is held: the slot is in use, and its epoch is still the odd one of its snapshot.
 pub fn holds(s: Slot, e: u64) -> bool
@@ -144,8 +145,9 @@ fn last_poll(k: usize, c: Control, s: Slot, e: u64) -> Moved
     moved_to(phases::last_passed(k), c, s, e)
 }
 
-// One step.
-pub fn advance(
+// One step, by how the key of an operation is searched.
+pub fn advance_by(
+    how: Search,
     c: Control,
     s: Slot,
     e: u64,
@@ -153,7 +155,7 @@ pub fn advance(
     right: &mut [u64],
     log: &mut [u64],
 ) -> Moved
-    ensures { λ r. ⌜ lent r (now (left .exit)) (now (right .exit)) (now (log .exit)) ≡ stepAt (c .phase) c s e (now (left .entry)) (now (right .entry)) (now (log .entry)) ⌝ }
+    ensures { λ r. ⌜ lent r (now (left .exit)) (now (right .exit)) (now (log .exit)) ≡ stepBy how (c .phase) c s e (now (left .entry)) (now (right .entry)) (now (log .entry)) ⌝ }
 {
     let p = c.phase;
     match p {
@@ -170,12 +172,12 @@ pub fn advance(
             )
         }
         Phase::Drain => {
-            slices::replay(c.right, 0, left, right, &log[..]);
+            slices::replay(how, c.right, 0, left, right, &log[..]);
             slices::unlog(log, c.length);
             moved(phases::drained(c), s, e)
         }
         Phase::Keep(k) => {
-            slices::replay(c.right, k, left, right, &log[..]);
+            slices::replay(how, c.right, k, left, right, &log[..]);
             moved_to(phases::kept(c.length, k), c, s, e)
         }
         Phase::Swap => moved_to(Phase::Snap(0), phases::swapped_over(c), s, e),
@@ -192,4 +194,18 @@ pub fn advance(
         }
         Phase::Gone => refused(Answer::Gone, c, s, e),
     }
+}
+
+// One step.
+pub fn advance(
+    c: Control,
+    s: Slot,
+    e: u64,
+    left: &mut [u64],
+    right: &mut [u64],
+    log: &mut [u64],
+) -> Moved
+    ensures { λ r. ⌜ lent r (now (left .exit)) (now (right .exit)) (now (log .exit)) ≡ stepAt (c .phase) c s e (now (left .entry)) (now (right .entry)) (now (log .entry)) ⌝ }
+{
+    advance_by(Search::Walk, c, s, e, left, right, log)
 }

@@ -12,6 +12,7 @@ use lib.Dec.{eqb, ltb, leb, eqb·suc-zero}
 use borrow.Author.Tests.{eq-eqb, ne-eqb, eqb-true, lt-ltb, le-ltb, ltb-true, ltb-false, le-leb, lt-leb, leb-true, leb-false, not-true, not-false}
 use Rattle.table.specs.declared.Answer.{Answer}
 use Rattle.table.specs.declared.Answer.the-variants as answer
+use Rattle.table.specs.declared.Search.the-variants.{Walk}
 use Rattle.table.specs.Answers.{number}
 use Rattle.table.specs.Order.{Op}
 use Rattle.table.specs.Seek.{seek}
@@ -31,7 +32,7 @@ use Rattle.read.specs.declared.Handle.the-variants.{Drop, Enter, GoOn, Release,
 use Rattle.read.specs.declared.Job.the-variants as job
 use Rattle.read.specs.Machine.{slotCount, logRoom, noSlot, newSlot, withFree, underway, isGone}
 use Rattle.read.specs.Admission.{column, entry, handleNumber}
-use Rattle.read.specs.Handles.{smallest, handleSigns, createSigns, handleOn, createOn, handled, withDue, bit}
+use Rattle.read.specs.Handles.{smallest, handleSigns, createSigns, handleOn, handleBy, createOn, handled, handledBy, withDue, bit}
 use Rattle.read.specs.Calls.{Lent, lent, slotAt, withSlot, replyOf}
 use Rattle.read.proofs.Verdicts.{Refusal, refused-mild}
 use Rattle.read.proofs.Cases.{create-room}
@@ -42,7 +43,7 @@ use Rattle.write.specs.declared.Opening.{Opening}
 use Rattle.write.specs.Call.{Call, Create, On, Append, Open, Step, Run}
 use Rattle.write.specs.declared.Opening.the-variants as opening
 use Rattle.write.specs.Steps.{at, polling, withLog}
-use Rattle.write.specs.Begins.{writerSigns, columnOf, batchRoom, allLawful, lawfulBatch, crowds, appendFirst, appendLater, appendOn, begun, taking, opened, openOn}
+use Rattle.write.specs.Begins.{writerSigns, columnOf, batchRoom, allLawful, lawfulBatch, crowds, appendFirst, appendLater, appendBy, begun, taking, opened, openOn}
 use Rattle.write.specs.Runs.{withMove, snapAt, lift}
 use Rattle.write.specs.Machine.{callOn}
 use Rattle.write.specs.World.{World, worldOf, reply, answerOf, valueOf}
@@ -353,7 +354,7 @@ module _ {w : World} {a : Account} (tie : Tie w a) where
   -- a drop makes its slot the first
   on-order : (i : ℕ) (lt : i < slotCount) (hd : Handle) → OnPassed c (eqb i 0) (slotAt (w .state) i) hd →
       (let m = handled c i (slotAt (w .state) i) hd (w .left) (w .right) in MetBy i lt hd m → OrderedBy i lt hd m)
-  unfolding handled
+  unfolding handledBy
   on-order i lt Drop u x = order-freed (tie .order) i (slotAt (w .state) i) (omega (arith, len)) (not-false _ (u .slot))
   on-order i lt Enter u x = stays-order i lt Enter _ refl x
   on-order i lt GoOn u x = stays-order i lt GoOn _ refl x
@@ -363,7 +364,7 @@ module _ {w : World} {a : Account} (tie : Tie w a) where
 
   module _ (i : ℕ) (lt : i < slotCount) (hd : Handle) where
     on-right : OnRight i lt hd (handleOn c i (slotAt (w .state) i) hd (w .left) (w .right))
-    unfolding handleOn
+    unfolding handleBy
     on-right =
         let s = slotAt (w .state) i in
         let signs = handleSigns c (eqb i 0) s hd in
@@ -451,7 +452,7 @@ module _ {w : World} {a : Account} (tie : Tie w a) where
       q : c .phase ≡ Idle
       q = rest .idle
 
-      early-right : c .first ≡ true → allLawful os ≡ true → ApRight (appendFirst os c s0 e0 (w .left) (w .right) (w .log))
+      early-right : c .first ≡ true → allLawful os ≡ true → ApRight (appendFirst Walk os c s0 e0 (w .left) (w .right) (w .log))
       early-right f law =
           let u : true ≡ unswapped (a .store) = sym f ∙ tie .steers .first in
           record {
@@ -461,7 +462,7 @@ module _ {w : World} {a : Account} (tie : Tie w a) where
             reads = subst (λ (b : Bool). ReadsAll (byFirst b) firstState) u first-reads;
             order = subst (λ (b : Bool). OrderOf (byFirst b) firstState) u (order-kept 0 _ refl refl);
             own = subst (λ (b : Bool). OwnOf (byFirst b)) u (own-at 0 (turned 2 (a .readers 0 .due) (a .readers 0)) (λ _. tie .own));
-            inv = subst (λ (b : Bool). InvOf (worldOf (lift 0 (w .state) (appendFirst os c s0 e0 (w .left) (w .right) (w .log)))) (byFirst b)) u
+            inv = subst (λ (b : Bool). InvOf (worldOf (lift 0 (w .state) (appendFirst Walk os c s0 e0 (w .left) (w .right) (w .log)))) (byFirst b)) u
                 (loads-nothing (ofStore (accepts 0 os) a) 0 (turned 2 (a .readers 0 .due) (a .readers 0)) refl (first-keeps solid (tie .inv) rest os f law));
           }
 
@@ -482,7 +483,7 @@ module _ {w : World} {a : Account} (tie : Tie w a) where
           }
 
     pub append-right : Right a (Append os) (reply callOn (Append os) w)
-    unfolding callOn appendOn
+    unfolding callOn appendBy
     append-right =
         let bad = not (lawfulBatch os) in
         let full = crowds (length os) c in

@@ -18,7 +18,7 @@ use Rattle.read.specs.Machine.{row, withFree, isGone}
 use Rattle.write.specs.declared.Moved.{Moved}
 use Rattle.write.specs.declared.Opening.{Opening}
 use Rattle.write.specs.declared.Opening.the-variants as opening
-use Rattle.write.specs.Steps.{at, swappedOver, nextJob, keeping, draining, polled, polling, beginning, published, lastPolling, lastSnapping, snapping, holds, pollMove, lastPollMove, stepAt}
+use Rattle.write.specs.Steps.{at, swappedOver, nextJob, keeping, draining, polled, polling, beginning, published, lastPolling, lastSnapping, snapping, holds, pollMove, lastPollMove, stepAt, stepBy}
 use Rattle.write.specs.Begins.{taking, opened}
 use Rattle.write.specs.Numbers.{isTry}
 use Rattle.write.proofs.Cases.{keeping-cases, draining-cases, polled-cases, polling-cases, beginning-cases, lastPolling-cases, lastSnapping-cases, snapping-cases, withJob}
@@ -195,7 +195,7 @@ module _ (a : Account) (c : Control) (h : SteersOf a c) (w : Whole c) (early : c
 
   module _ (l r g : List ℕ) where
     after-at : (p : Phase) → At p → number (stepAt p c s e l r g .made .answer) ≡ 0 → Fits (c .length) (c .swapped) (c .null) p → After p (stepAt p c s e l r g .made)
-    unfolding stepAt
+    unfolding stepBy
     after-at Idle x z f = absurd (omega arith)
     after-at Begin x z f = goes c h (beginning c) (onto (x .over) (st-beginning c (a .store .inLog) (a .store .swapIndex) _ early (w .within) (x .log .0) (x .log .1)))
     after-at (Poll k) x z f = after-poll (holds s e) k x z

@@ -272,12 +272,12 @@ module _ {w : World} {a : Account} (h : Tie w a) where
       ⊎-elim
       (λ p.
       let t = stands-at a (h .steers) p in
-      h .inv .unused .log x (omega (arith, t .log .0)))
+      h .inv .unused x (omega (arith, t .log .0)))
       (λ p. ap (λ (g : List ℕ). getD g x 0) (h .inv .spent (ap isGone p)) ∙ getD-same logWords x 0)
       (idle-or-gone (c .phase) (sym (busy-is a c (h .steers) (whole h)) ∙ n))
 
   all-unused : UnusedIn (record { world = w; account = a })
-  all-unused = record { left = h .inv .unused .left; right = h .inv .unused .right; log = unused-log }
+  all-unused = record { left = h .sound .good .words .left .clear; right = h .sound .good .words .right .clear; log = unused-log }
 
 -- a run is its steps
 all-runs : {w : World} {a : Account} → Tie w a → (let r = reply callRule Run w in Runs callRule (record { world = w; account = a }) (valueOf r) (answerOf r) (next callRule Run w))

@@ -22,7 +22,7 @@ use Rattle.read.specs.declared.Handle.{Handle}
 use Rattle.read.specs.declared.Handle.the-variants.{Drop, Enter, GoOn, Release, LookUp, WasDropped}
 use Rattle.read.specs.declared.Made.{Made}
 use Rattle.read.specs.Machine.{openOn, withReading, guardCount, shut, isOpen, standsRight, putGuard, firstGuard, anyOpen, allOpen, isDue, isLoad}
-use Rattle.read.specs.Handles.{madeOf, withDue, freed, guarded, loaded, entered, wentOn, released, copyOf, bit, handled}
+use Rattle.read.specs.Handles.{madeOf, withDue, freed, guarded, loaded, entered, wentOn, released, copyOf, bit, handled, handledBy}
 use Rattle.read.specs.Admission.{column, entry}
 use Rattle.write.specs.Steps.{holds, seen}
 use Rattle.demands.specs.Account.{delays, Reader, withAt, lowest, inside, reader as readerOf, dropped, turned, opens, closes, readsEpoch, spoke, quits}
@@ -223,7 +223,7 @@ module _ (os : List Op) {r : Reader} {s : Slot} {e : ℕ} (h : Reads r s e) (fou
         (l rr : List ℕ) → ((j : ℕ) → isOpen (s .guards) j ≡ true → copyOf (standsRight (s .guards) j) l rr ≡ after (r .loaded j) empty) →
         (i : ℕ) (hd : Handle) → OnPassed c (eqb i 0) s hd →
         (let m = handled c i s hd l rr in Met c (spoke hd (number (m .answer)) (m .value) os r) (misses r hd (c .null)) (worthOn hd (c .null) r) hd m)
-    unfolding handled
+    unfolding handledBy
     handled-met l rr shows i Drop u =
         record { reads = freed-reads (c .free); answer = refl; value = refl; row = λ j o. refl; stays = λ n. clash refl n }
     handled-met l rr shows i Enter u = enter-met (u .fewer)

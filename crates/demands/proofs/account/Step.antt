@@ -28,7 +28,7 @@ use Rattle.read.specs.Calls.{Lent, lent, slotAt}
 use Rattle.read.proofs.Verdicts.{refused-mild}
 use Rattle.write.specs.declared.Moved.{Moved}
 use Rattle.write.specs.Call.{Step}
-use Rattle.write.specs.Steps.{holds, seen, vacated, firstThen, swappedOver, snapping, pollMove, lastPollMove, stepAt}
+use Rattle.write.specs.Steps.{holds, seen, vacated, firstThen, swappedOver, snapping, pollMove, lastPollMove, stepAt, stepBy}
 use Rattle.write.proofs.Cases.{snapping-cases}
 use Rattle.write.specs.Begins.{stepSigns}
 use Rattle.write.specs.Scans.{polls}
@@ -158,7 +158,7 @@ module _ {w : World} {a : Account} (tie : Tie w a) where
   moves-lastPoll false k z = λ ms. reads-back k
 
   moves-at : (p : Phase) → Fits (c .length) (c .swapped) (c .null) p → number (after p .answer) ≡ 0 → Moves p (after p)
-  unfolding stepAt
+  unfolding stepBy
   moves-at Idle f z = absurd (omega arith)
   moves-at Begin f z = λ ms. reads-back 0
   moves-at (Poll k) f z = moves-poll (holds (slot (Poll k)) (snapOf (Poll k))) k z
@@ -210,7 +210,7 @@ module _ {w : World} {a : Account} (tie : Tie w a) where
       (sym u) (order-freed (tie .order) 0 s (omega (arith, len tie, some-slot)) u)
 
   orders-at : (p : Phase) → (isGone p ≡ false → slotAt st 0 .used ≡ true) → number (after p .answer) ≡ 0 → Orders p (after p)
-  unfolding stepAt
+  unfolding stepBy
   orders-at Idle u z = absurd (omega arith)
   orders-at Begin u z = λ ms. order-back 0
   orders-at (Poll k) u z = orders-poll (holds (slot (Poll k)) (snapOf (Poll k))) k z

@@ -9,7 +9,8 @@ use lib.ListN.{length, getD, set, replicate}
 use lib.Seq.{set-getD}
 use lib.Dec.{ltb, leb}
 use borrow.Author.Tests.{not-false, ltb-false, le-ltb, leb-true, le-leb}
-use Rattle.table.specs.Copy.{lawful}
+use Rattle.table.specs.Copy.{lawful, Fit}
+use Rattle.table.specs.declared.Search.the-variants.{Walk}
 use Rattle.table.specs.Order.{Op}
 use Rattle.table.proofs.Booleans.{both}
 use Rattle.table.proofs.Split.{by}
@@ -25,14 +26,14 @@ use Rattle.read.proofs.Verdicts.{silent, refused-mild}
 use Rattle.read.proofs.Orderly.{orderly-stored}
 use Rattle.write.specs.declared.Moved.{Moved}
 use Rattle.write.specs.Call.{Append}
-use Rattle.write.specs.Begins.{batchRoom, allLawful, lawfulBatch, crowds, writerSigns, operatedAll, logged, loggedAll, appended, appendOn}
+use Rattle.write.specs.Begins.{batchRoom, allLawful, lawfulBatch, crowds, writerSigns, operatedAll, logged, loggedAll, appended, appendOn, appendBy}
 use Rattle.write.specs.Steps.{withLog, ofLeft, ofRight}
 use Rattle.write.specs.Runs.{snapAt, lift}
 use Rattle.write.specs.Machine.{callOn, callRule}
 use Rattle.write.specs.World.{World, reply, worldOf, answerOf, valueOf, Played, answering, played}
 use Rattle.write.proofs.Verdicts.{judging}
 use Rattle.write.proofs.Control.{whole-append}
-use Rattle.write.proofs.Words.{words-append}
+use Rattle.write.proofs.Words.{kept-fit, words-append}
 use Rattle.write.proofs.Judged.{Good, judged-good, judged-orderly, good-judged}
 use Rattle.demands.specs.Batches.{ones, further, AsAppends}
 use Rattle.demands.proofs.refusal.Judged.{Grave, judged-grave}
@@ -43,12 +44,12 @@ abbrev signsOf : List Op → Control → Slot → List Sign
 signsOf os c s = writerSigns 7 (not (lawfulBatch os)) (crowds (length os) c) c s
 
 record Admits (os : List Op) (w : World) : Type 0 where
-  good : Good (w .state .control) (w .left) (w .right) (w .log)
+  good : Good Fit (w .state .control) (w .left) (w .right) (w .log)
   ordered : orderly (w .state) ≡ true
   signs : smallest (signsOf os (w .state .control) (slotAt (w .state) 0)) ≡ Admitted
 
 made-admits : (os : List Op) (w : World) → answerOf (reply callRule (Append os) w) ≡ 0 → Admits os w
-unfolding callRule callOn appendOn
+unfolding callRule callOn appendBy
 made-admits os w =
     let st = w .state in
     let c = st .control in
@@ -61,30 +62,30 @@ made-admits os w =
 
 -- what comes of it, by whether it is applied at once
 abbrev taken : Bool → List Op → World → Lent Reply
-taken first os w = let st = w .state in lift 0 st (appended first os (st .control) (slotAt st 0) (snapAt st 0) (w .left) (w .right) (w .log))
+taken first os w = let st = w .state in lift 0 st (appended Walk first os (st .control) (slotAt st 0) (snapAt st 0) (w .left) (w .right) (w .log))
 
 abbrev leaves : Bool → List Op → World → World
 leaves first os w = worldOf (taken first os w)
 
 module _ {os : List Op} {w : World} (h : Admits os w) (first : Bool) (q : w .state .control .first ≡ first) where
   appends-so : let st = w .state in let c = st .control in
-      appendOn os c (slotAt st 0) (snapAt st 0) (w .left) (w .right) (w .log) ≡ appended first os c (slotAt st 0) (snapAt st 0) (w .left) (w .right) (w .log)
-  unfolding appendOn
-  appends-so = rw (h .signs, appendOn, q)
+      appendOn os c (slotAt st 0) (snapAt st 0) (w .left) (w .right) (w .log) ≡ appended Walk first os c (slotAt st 0) (snapAt st 0) (w .left) (w .right) (w .log)
+  unfolding appendBy
+  appends-so = rw (h .signs, appendBy, q)
 
   replies-so : reply callRule (Append os) w ≡ taken first os w
   unfolding callRule callOn
   replies-so = rw (good-judged (w .state) (w .left) (w .right) (w .log) (h .good) (h .ordered), callRule) (ap (lift 0 (w .state)) appends-so)
 
-  stays-good : let x = leaves first os w in Good (x .state .control) (x .left) (x .right) (x .log)
+  stays-good : let x = leaves first os w in Good Fit (x .state .control) (x .left) (x .right) (x .log)
   stays-good =
       let c = w .state .control in
       let s = slotAt (w .state) 0 in
       let e = snapAt (w .state) 0 in
-      subst (λ (m : Lent Moved). Good (m .made .control) (m .left) (m .right) (m .log)) appends-so
+      subst (λ (m : Lent Moved). Good Fit (m .made .control) (m .left) (m .right) (m .log)) appends-so
       (record {
         whole = whole-append c (h .good .whole) s e os (w .left) (w .right) (w .log);
-        words = words-append c s e (w .left) (w .right) (w .log) (h .good .words) os;
+        words = words-append kept-fit c s e (w .left) (w .right) (w .log) (h .good .words) os;
       })
 
 -- ---- its first operation is admitted, and then the others

@@ -25,15 +25,15 @@ use Rattle.read.specs.declared.Reply.{Reply}
 use Rattle.read.specs.declared.Verdict.{Verdict}
 use Rattle.read.specs.declared.Verdict.the-variants.{Admitted, Refused}
 use Rattle.read.specs.Machine.{slotCount, firstUnlawful, glanced, judged, underway, place, anyOpen}
-use Rattle.read.specs.Handles.{smallest, handleSigns, createSigns, withDue, freed, loaded, wentOn, handled, handleOn, createOn}
+use Rattle.read.specs.Handles.{smallest, handleSigns, createSigns, withDue, freed, loaded, wentOn, handled, handledBy, handleOn, handleBy, createOn}
 use Rattle.read.specs.Calls.{Lent, lent, slotAt, replyOf, throughGuard, throughRule}
 use Rattle.read.proofs.Orderly.{orderly-stored}
 use Rattle.write.specs.declared.Moved.{Moved}
 use Rattle.write.specs.declared.Opening.{Opening}
 use Rattle.write.specs.declared.Opening.the-variants as opening
 use Rattle.write.specs.Call.{Create, On, Append, Open}
-use Rattle.write.specs.Steps.{holds, seen, vacated, finished, at, ofLeft, ofRight, moved, stepAt}
-use Rattle.write.specs.Begins.{lawfulBatch, crowds, writerSigns, columnOf, appendOn, openOn, opened}
+use Rattle.write.specs.Steps.{holds, seen, vacated, finished, at, ofLeft, ofRight, moved, stepAt, stepBy}
+use Rattle.write.specs.Begins.{lawfulBatch, crowds, writerSigns, columnOf, appendBy, openOn, opened}
 use Rattle.write.specs.Runs.{snapAt, lift}
 use Rattle.write.specs.Machine.{callOn}
 use Rattle.write.specs.World.{worldOf}
@@ -71,7 +71,7 @@ module _ (c : Control) (s : Slot) (l r : List ℕ) where
   loaded-same d = test-same hideMade (c .null) refl refl
 
   handled-same : (h : Handle) → hideMade (handled c 0 s h l r) ≡ hideMade (handled c 0 (hide s) h l r)
-  unfolding handled
+  unfolding handledBy
   handled-same Drop = refl
   handled-same Enter = test-same hideMade (anyOpen (s .guards)) (loaded-same (s .due)) refl
   handled-same GoOn = go (s .due)
@@ -85,7 +85,7 @@ module _ (c : Control) (s : Slot) (l r : List ℕ) where
   handled-same WasDropped = refl
 
   handle-same : (h : Handle) → hideMade (handleOn c 0 s h l r) ≡ hideMade (handleOn c 0 (hide s) h l r)
-  unfolding handleOn
+  unfolding handleBy
   handle-same h = verdict-same hideMade (smallest (handleSigns c true s h)) (handled-same h) (λ a. refl)
 
 -- ---- a call on the machine, but a step and a run
@@ -116,7 +116,7 @@ module _ (c : Control) (s : Slot) (ss : List Slot) (e : ℕ) (es l r g : List �
   on-same (suc i) h = test-same (λ (o : Reply). hideIn (lent o l r g)) (ltb (suc i) slotCount) refl refl
 
   pub append-same : (os : List Op) → hideIn (callOn (Append os) full l r g) ≡ hideIn (callOn (Append os) bare l r g)
-  unfolding callOn appendOn
+  unfolding callOn appendBy
   append-same os =
       verdict-same (λ (m : Lent Moved). hideIn (lift 0 full m)) (smallest (writerSigns 7 (not (lawfulBatch os)) (crowds (length os) c) c s))
       (test-same (λ (m : Lent Moved). hideIn (lift 0 full m)) (c .first) refl refl) (λ a. refl)
@@ -166,7 +166,7 @@ module _ (c : Control) (s : Slot) (ss : List Slot) (e : ℕ) (es l r g : List �
 
   pub free-same : (p : Phase) → (underway p ≡ true → holds s e ≡ false) → let i = place p in
       lift i bare (stepAt p c (slotAt bare i) (snapAt bare i) l r g) ≡ hideIn (lift i full (stepAt p c (slotAt full i) (snapAt full i) l r g))
-  unfolding stepAt
+  unfolding stepBy
   free-same Idle f = refl
   free-same Begin f = refl
   free-same (Poll zero) f = simp (and-false, f refl)

@@ -7,6 +7,7 @@ use native.Mathlib.Omega.{arith}
 use lib.ListN.{length}
 use lib.Dec.{eqb}
 use borrow.Author.Tests.{eq-eqb, not-false}
+use Rattle.table.specs.declared.Search.the-variants.{Walk}
 use Rattle.table.specs.Order.{Op, after}
 use Rattle.table.proofs.Booleans.{neither, clash}
 use Rattle.read.specs.declared.Phase.{Phase}
@@ -31,7 +32,7 @@ use Rattle.demands.proofs.Passed.{OnPassed}
 use Rattle.demands.proofs.Sides.{readCopy, writeCopy}
 use Rattle.demands.proofs.shown.Invariant.{Seen, sight, Quiet, Stage, Inv, opsOf, reachAt, firstly, orAll}
 use Rattle.demands.proofs.shown.Slot.{within-same, twice-view, weaken}
-use Rattle.demands.proofs.shown.Unused.{clear-operatedAll, clear-loggedAll}
+use Rattle.demands.proofs.shown.Unused.{clear-loggedAll}
 use Rattle.demands.proofs.shown.Log.{length-ops, ops-loggedAll, all-made}
 use Rattle.demands.proofs.shown.Stages.{Begins, begins-polling, begins-beginning, begins-taking, stage-polling, stage-beginning, begin-stage, take-stage, log-stage, apply-stage}
 use Rattle.demands.proofs.shown.Lifts.{ctl, world, withControl, slotBack, snapBack, StageIn, snap-back, both-back, slot-keeps, control-keeps, write-keeps}
@@ -85,14 +86,14 @@ module _ {w : World} {t : Seen} (sound : Firm w) (inv : Inv w t) where
 
       pub first-keeps :
           ctl w .first ≡ true → allLawful os ≡ true →
-          Inv (worldOf (lift 0 (w .state) (appendFirst os (ctl w) (slotAt (w .state) 0) (snapAt (w .state) 0) (w .left) (w .right) (w .log)))) grown
+          Inv (worldOf (lift 0 (w .state) (appendFirst Walk os (ctl w) (slotAt (w .state) 0) (snapAt (w .state) 0) (w .left) (w .right) (w .log)))) grown
       first-keeps q law =
           let s = slotAt (w .state) 0 in
           let h = slot-keeps sound inv 0 some-slot (withDue ((s .epoch + 2) % 2 ^ 64) (s .due) s) (t .loaded) (λ k ne. refl) (λ _ u. not-underway u)
           (twice-view (inv .each 0) (rest .quiet)) in
           snap-back 0 _
           (write-keeps (firm-slot 0 _ sound) h (operatedAll os) (after os (writeCopy w)) (all-made os (writeCopy w) law (fit-write sound inv))
-          (clear-operatedAll os) (inv .unused .log) (ap (λ (f : Bool). orAll f (reachAt (ctl w .phase) .cleared)) q) (within-same refl)
+          (inv .unused) (ap (λ (f : Bool). orAll f (reachAt (ctl w .phase) .cleared)) q) (within-same refl)
           (λ u. not-underway u) (λ u. not-underway u)
           (subst
           (λ (p : Phase). Stage p (ctl w .job) (ctl w .second) (ctl w .swapped) (opsOf w) (readCopy w) (after os (writeCopy w)) (t .accepted ++ os) (t .published) (ctl w .first))
@@ -116,7 +117,7 @@ module _ {w : World} {t : Seen} (sound : Firm w) (inv : Inv w t) where
                 (λ (p : Phase) (ls : List Op). Stage p (ctl w .job) (ctl w .second) (ctl w .swapped) ls (readCopy w) (writeCopy w) (t .accepted ++ os) (t .published) (ctl w .first))
                 (sym (rest .idle)) (sym (ops-loggedAll os n (w .log) lt (sound .good .words .log)))
                 (log-stage os q (omega (arith, sound .good .whole .within, length-ops n 0 (w .log))) (stage-idle (rest .idle)));
-            unused = record { left = inv .unused .left; right = inv .unused .right; log = clear-loggedAll os n (w .log) (inv .unused .log) };
+            unused = clear-loggedAll os n (w .log) (inv .unused);
             spent = λ z. clash z (ap isGone (rest .idle));
           })
 

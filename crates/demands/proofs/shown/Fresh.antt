@@ -4,13 +4,12 @@ use mathlib.Core.Path.{refl}
 use Rattle.table.proofs.Booleans.{clash}
 use Rattle.table.proofs.Parity.{odd-zero}
 use Rattle.table.proofs.Lists.{getD-same}
-use Rattle.read.specs.Machine.{slotCount, noSlot, fresh}
+use Rattle.read.specs.Machine.{slotCount, logWords, noSlot, fresh}
 use Rattle.read.specs.Calls.{slotAt}
 use Rattle.write.specs.World.{freshWorld}
 use Rattle.demands.specs.Account.{freshAccount}
 use Rattle.demands.proofs.shown.Invariant.{seenOf, outside, ViewOf, early, Inv}
 use Rattle.demands.proofs.shown.Guards.{none-open}
-use Rattle.demands.proofs.shown.Unused.{fresh-unused}
 use Rattle.demands.proofs.shown.Slot.{no-guards, new-view}
 
 -- ---- every history
@@ -22,7 +21,7 @@ fresh-inv = record {
   read = refl;
   atBegin = λ u. clash u refl;
   stage = early refl (refl, record { unsynced = refl; unlogged = refl; holds = refl });
-  unused = fresh-unused;
+  unused = λ x b. getD-same logWords x 0;
   spent = λ z. clash z refl;
 }
   where

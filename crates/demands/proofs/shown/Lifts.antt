@@ -26,7 +26,6 @@ use Rattle.write.specs.World.{World}
 use Rattle.demands.proofs.Sound.{Firm}
 use Rattle.demands.proofs.Sides.{readCopy, writeCopy}
 use Rattle.demands.proofs.shown.Invariant.{Seen, sight, Quiet, Reach, reachAt, orAll, firstly, View, ViewOf, ClearLog, Stage, Inv, opsFrom, opsOf}
-use Rattle.demands.proofs.shown.Unused.{KeepsClear, written-unused}
 use Rattle.demands.proofs.shown.Guards.{all-shut, none-open}
 use Rattle.demands.proofs.shown.Stages.{Stands, steered, onward}
 use Rattle.demands.proofs.shown.Slot.{Within, within-firstly, weaken, written-view, snapped-view}
@@ -155,13 +154,13 @@ module _ {w : World} {t : Seen} (sound : Firm w) (inv : Inv w t) where
   -- a change of the write copy by f, to x, where no guard stands on it
   pub write-keeps :
       {null lock second : Bool} {p : Phase} {j : Job} {n s : ℕ} {g : List ℕ} (f : List ℕ → List ℕ) (x : List ℕ) {acc : List Op} →
-      f (writeCopy w) ≡ x → KeepsClear f → ClearLog n g → orAll (ctl w .first) (reachAt (ctl w .phase) .cleared) ≡ slotCount →
+      f (writeCopy w) ≡ x → ClearLog n g → orAll (ctl w .first) (reachAt (ctl w .phase) .cleared) ≡ slotCount →
       ((i : ℕ) → Within i (firstly (ctl w .first) (reachAt p)) (firstly (ctl w .first) (reachAt (ctl w .phase)))) →
       (underway p ≡ true → Quiet (slotAt (w .state) 0)) → (underway p ≡ true → t .atBegin ≡ acc) →
       Stage p j second s (opsFrom n 0 g) (readCopy w) x acc (t .published) (ctl w .first) →
       (isGone p ≡ true → g ≡ replicate logWords 0) →
       Inv (wrote (steered null lock second p j n s (ctl w)) f g w) (sight acc (t .atBegin) (t .published) (t .loaded))
-  write-keeps {null} {lock} {second} {p} {j} {n} {s} {g} f x {acc} e clear log h in-reach quiet bg stg spent =
+  write-keeps {null} {lock} {second} {p} {j} {n} {s} {g} f x {acc} e clear h in-reach quiet bg stg spent =
       let same = read-same (ctl w .right) f (w .left) (w .right) in
       let new = write-new (ctl w .right) f (w .left) (w .right) ∙ e in
       record {
@@ -170,7 +169,7 @@ module _ {w : World} {t : Seen} (sound : Firm w) (inv : Inv w t) where
         read = same ∙ inv .read;
         atBegin = bg;
         spent = spent;
-        unused = written-unused (ctl w .right) f (sound .good .words .left) (sound .good .words .right) clear log (inv .unused);
+        unused = clear;
         stage = subst₂ (λ (y z : List ℕ). Stage p j second s (opsFrom n 0 g) y z acc (t .published) (ctl w .first)) (sym same) (sym new) stg;
       }
 

@@ -9,12 +9,13 @@ use lib.ListN.{length, getD, drop, length-set}
 use lib.Seq.{take-length, drop-length}
 use borrow.Author.Tests.{lt-ltb}
 use Rattle.table.specs.Copy.{lawful, Fit}
+use Rattle.table.specs.declared.Search.the-variants.{Walk}
 use Rattle.table.specs.Order.{Op, after}
 use Rattle.table.proofs.Cases.{apply-made}
 use Rattle.table.proofs.CopyFit.{fit-applied, fit-fits}
 use Rattle.table.proofs.Booleans.{both}
 use Rattle.read.specs.Machine.{logRoom, logWords, lawfulAt}
-use Rattle.write.specs.Steps.{operated, logApplied, over, unlogged}
+use Rattle.write.specs.Steps.{operated, logApplied, logAppliedBy, over, unlogged}
 use Rattle.write.specs.Begins.{allLawful, logged, operatedAll, loggedAll}
 use Rattle.write.proofs.Words.{moved-word, other-word, kind-word, key-word, amount-word}
 use Rattle.demands.proofs.shown.Invariant.{opAt, opsFrom}
@@ -107,12 +108,12 @@ ops-unlogged n g some room sized =
 -- ---- operations applied, and the copying
 
 op-made : (o : Op) (w : List ℕ) → lawful (o .kind) (o .key) (o .amount) ≡ true → Fit w → operated (o .kind) (o .key) (o .amount) w ≡ after (o ∷ []) w
-op-made o w law fit = ap (λ x. x .copy) (apply-made (o .kind) (o .key) (o .amount) w (fit-fits w fit) law)
+op-made o w law fit = ap (λ x. x .copy) (apply-made Walk (o .kind) (o .key) (o .amount) w (fit-fits w fit) law)
 
 -- an operation of the log of a sound machine
 pub op-applied :
     (g : List ℕ) (i : ℕ) (w : List ℕ) → i < logRoom → lawfulAt g i ≡ true → Fit w → logApplied g i w ≡ after (opAt g i ∷ []) w
-op-applied g i w h law fit = rw (lt-ltb i logRoom h, logApplied) (op-made (opAt g i) w law fit)
+op-applied g i w h law fit = rw (lt-ltb i logRoom h, logAppliedBy) (op-made (opAt g i) w law fit)
 
 -- lawful operations, one after the other
 pub all-made : (os : List Op) (w : List ℕ) → allLawful os ≡ true → Fit w → operatedAll os w ≡ after os w

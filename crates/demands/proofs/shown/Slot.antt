@@ -23,7 +23,7 @@ use Rattle.read.specs.declared.Handle.{Handle}
 use Rattle.read.specs.declared.Handle.the-variants.{Drop, Enter, GoOn, Release, LookUp, WasDropped}
 use Rattle.read.specs.declared.Made.{Made}
 use Rattle.read.specs.Machine.{openOn, withReading, slotCount, guardCount, shut, isOpen, standsRight, putGuard, firstGuard, anyOpen, allOpen, isDue, isLoad, newSlot}
-use Rattle.read.specs.Handles.{withDue, freed, guarded, loaded, entered, wentOn, released, copyOf, mistimed, handled}
+use Rattle.read.specs.Handles.{withDue, freed, guarded, loaded, entered, wentOn, released, copyOf, mistimed, handled, handledBy}
 use Rattle.read.specs.Admission.{column, entry, handleNumber}
 use Rattle.write.specs.Steps.{holds, seen, vacated}
 use Rattle.demands.specs.Account.{withAt}
@@ -189,7 +189,7 @@ module _ (c : Control) {h : Reach} {i snap : ℕ} {l r : List ℕ} {f : ℕ → 
     timely own hd u = neither (eqb (entry (c .phase) (column hd own)) 6) _ (u .timely) .1
 
     pub handled-view : (own : Bool) (hd : Handle) → OnPassed c own s hd → Kept hd (handled c i s hd l r)
-    unfolding handled
+    unfolding handledBy
     handled-view own Drop u = freed-view (c .free) v (record { idle = timely own Drop u; alone = u .guards })
     handled-view own Enter u = entered-view (timely own Enter u) (u .fewer)
     handled-view own GoOn u = wentOn-view (s .due) refl (not-false _ (timely own GoOn u)) (lacks-none _ _ _ (u .fewer))

@@ -9,7 +9,7 @@ use native.Mathlib.Nat.{le-refl}
 use lib.ListN.{length, getD, drop, replicate}
 use lib.Seq.{drop-cons, drop-length}
 use Rattle.table.specs.Copy.{zeros, Fit}
-use Rattle.table.specs.Order.{Op, empty, after, Clear}
+use Rattle.table.specs.Order.{Op, empty, after}
 use Rattle.table.proofs.CopyWords.{getD-zeros}
 use Rattle.table.proofs.Split.{by}
 use Rattle.table.proofs.Booleans.{clash}
@@ -22,8 +22,9 @@ use Rattle.read.specs.declared.Reply.{Reply}
 use Rattle.read.specs.Machine.{slotCount, isOpen, underway, isGone, place}
 use Rattle.read.specs.Handles.{copyOf}
 use Rattle.read.specs.Calls.{Lent, lent, slotAt}
+use Rattle.read.proofs.Cases.{of-copy}
 use Rattle.write.specs.declared.Moved.{Moved}
-use Rattle.write.specs.Steps.{holds, seen, vacated, firstThen, snapping, swappedOver, logApplied, over, unlogged, moved, stopped, stepAt}
+use Rattle.write.specs.Steps.{holds, seen, vacated, firstThen, snapping, swappedOver, logApplied, over, unlogged, moved, stopped, stepAt, stepBy}
 use Rattle.write.specs.Runs.{snapAt, lift, stepOn}
 use Rattle.write.specs.World.{World, worldOf, answerOf}
 use Rattle.write.proofs.Control.{Placed, some-slot}
@@ -34,7 +35,7 @@ use Rattle.demands.proofs.shown.Invariant.{Seen, afterMove, Quiet, Stag
 use Rattle.demands.proofs.shown.Slot.{Within, within-same, within-firstly, weaken, passed-held, polled-view, turned-view, vacated-view}
 use Rattle.demands.proofs.shown.Log.{noOp, length-ops, op-ops, ops-unlogged, op-applied, over-whole}
 use Rattle.demands.proofs.shown.Stages.{Stands, here, stands-keeping, stands-draining, stands-polling, begins-beginning, stands-snapping, stands-lastPolling, stands-lastSnapping, snapping-onward, steered, onward, full, stage-polling, stage-beginning, stage-snapping, idle-stage, poll-stage, copy-stage, drain-stage, keep-stage, snap-stage, swap-stage, from-null, from-lock, from-lastSnap, from-lastPoll, from-finish, to-lock, to-lastPolling, to-lastSnapping, to-gone}
-use Rattle.demands.proofs.shown.Unused.{KeepsClear, of-copy, clear-over, clear-logApplied, clear-zeros, clear-unlogged}
+use Rattle.demands.proofs.shown.Unused.{clear-unlogged}
 use Rattle.demands.proofs.shown.Lifts.{ctl, withControl, wrote, slotBack, snapTo, snapBack, slot-back, snap-back, both-back, free-keeps, ViewAs, StageIn, slot-keeps, control-keeps, write-keeps, snap-keeps}
 
 -- where all are cleared, they are before the first swap too
@@ -54,10 +55,10 @@ module _ {w : World} {t : Seen} (sound : Firm w) (inv : Inv w t) where
   ln = length-ops (ctl w .length) 0 (w .log)
 
   pub fit-write : Fit (writeCopy w)
-  fit-write = of-copy Fit (not (ctl w .right)) (sound .good .words .left) (sound .good .words .right)
+  fit-write = of-copy Fit (not (ctl w .right)) (sound .good .words .left .fit) (sound .good .words .right .fit)
 
   fit-read : Fit (readCopy w)
-  fit-read = of-copy Fit (ctl w .right) (sound .good .words .left) (sound .good .words .right)
+  fit-read = of-copy Fit (ctl w .right) (sound .good .words .left .fit) (sound .good .words .right .fit)
 
   module _ {p : Phase} (e : ctl w .phase ≡ p) where
     stage-at : StageIn w t p (ctl w .job)
@@ -92,7 +93,7 @@ module _ {w : World} {t : Seen} (sound : Firm w) (inv : Inv w t) where
   same i = both-back i w inv
 
   begin-keeps : ctl w .phase ≡ Begin → Next Begin (stepped Begin 0)
-  unfolding stepAt
+  unfolding stepBy
   begin-keeps e =
       let b = begins-beginning (ctl w) in
       both-back 0 _ (phase-step e refl (within-same (b .at)) (b .stays) (stage-beginning (ctl w) ln (stage-at e)))
@@ -112,7 +113,7 @@ module _ {w : World} {t : Seen} (sound : Firm w) (inv : Inv w t) where
       (λ _. inv .own u) (λ _. inv .atBegin u) (b .stays) stg
 
   poll-keeps : (k : ℕ) → ctl w .phase ≡ Poll k → Next (Poll k) (stepped (Poll k) k)
-  unfolding stepAt
+  unfolding stepBy
   poll-keeps k e =
       let lt : k < slotCount = placed-at e in
       by (λ (m : Moved). Next (Poll k) (lift k (w .state) (lent m (w .left) (w .right) (w .log)))) (holds (slotAt (w .state) k) (snapAt (w .state) k))
@@ -132,7 +133,7 @@ module _ {w : World} {t : Seen} (sound : Firm w) (inv : Inv w t) where
       go TakeSecond = same k
 
   lastPoll-keeps : (k : ℕ) → ctl w .phase ≡ LastPoll k → Next (LastPoll k) (stepped (LastPoll k) k)
-  unfolding stepAt
+  unfolding stepBy
   lastPoll-keeps k e =
       let lt : k < slotCount = placed-at e in
       by (λ (m : Moved). Next (LastPoll k) (lift k (w .state) (lent m (w .left) (w .right) (w .log)))) (holds (slotAt (w .state) k) (snapAt (w .state) k))
@@ -142,11 +143,11 @@ module _ {w : World} {t : Seen} (sound : Firm w) (inv : Inv w t) where
       (stands-lastPolling (k + 1) (omega arith)) (to-lastPolling (from-lastPoll (stage-at e)) (k + 1))))
 
   null-keeps : ctl w .phase ≡ Null → Next Null (stepped Null 0)
-  unfolding stepAt
+  unfolding stepBy
   null-keeps e = both-back 0 _ (phase-step e refl (within-same refl) refl (to-lock (from-null (stage-at e))))
 
   lock-keeps : ctl w .phase ≡ Lock → Next Lock (stepped Lock 0)
-  unfolding stepAt
+  unfolding stepBy
   lock-keeps e =
       let b = stands-lastSnapping 0 (omega arith) in
       both-back 0 _
@@ -155,22 +156,21 @@ module _ {w : World} {t : Seen} (sound : Firm w) (inv : Inv w t) where
   -- a step that goes on to phase q, where the write copy becomes x by f
   write-step :
       {p q : Phase} {null lock second : Bool} {n s : ℕ} {g : List ℕ} (f : List ℕ → List ℕ) (x : List ℕ) → ctl w .phase ≡ p → underway p ≡ true →
-      reachAt p ≡ full → Stands full q → f (writeCopy w) ≡ x → KeepsClear f → ClearLog n g →
+      reachAt p ≡ full → Stands full q → f (writeCopy w) ≡ x → ClearLog n g →
       Stage q (ctl w .job) second s (opsFrom n 0 g) (readCopy w) x (t .accepted) (t .published) (ctl w .first) →
       Inv (wrote (steered null lock second q (ctl w .job) n s (ctl w)) f g w) t
-  write-step {p} {q} f x e u a b h clear log stg =
+  write-step {p} {q} f x e u a b h clear stg =
       let here = ap reachAt e ∙ a in
-      write-keeps sound inv f x h clear log (all-full (ctl w .first) (ap (λ (r : Reach). r .cleared) here))
+      write-keeps sound inv f x h clear (all-full (ctl w .first) (ap (λ (r : Reach). r .cleared) here))
       (within-same (ap (firstly (ctl w .first)) (b .at ∙ sym here))) (λ _. quiet-at e u) (λ _. begun-at e u) stg (λ z. clash z (b .stays))
 
   copy-keeps : ctl w .phase ≡ Copy → Next Copy (stepped Copy 0)
-  unfolding stepAt
+  unfolding stepBy
   copy-keeps e =
       both-back 0 _
       (write-step (over (readCopy w)) (readCopy w) e refl refl (stands-draining (ctl w .swapped) (ctl w .length))
       (over-whole (readCopy w) (writeCopy w) (fit-read .sized ∙ sym (fit-write .sized)))
-      (clear-over (readCopy w) fit-read (of-copy Clear (ctl w .right) (inv .unused .left) (inv .unused .right))) (inv .unused .log)
-      (copy-stage (ctl w .length) ln (stage-at e)))
+      (inv .unused) (copy-stage (ctl w .length) ln (stage-at e)))
 
   -- an operation of the log, on the write copy
   applied-next : (i : ℕ) → i < ctl w .length → logApplied (w .log) i (writeCopy w) ≡ after (opAt (w .log) i ∷ []) (writeCopy w)
@@ -178,7 +178,7 @@ module _ {w : World} {t : Seen} (sound : Firm w) (inv : Inv w t) where
       op-applied (w .log) i (writeCopy w) (omega (arith, sound .good .whole .room)) (sound .good .words .lawfully i lt) fit-write
 
   drain-keeps : ctl w .phase ≡ Drain → Next Drain (stepped Drain 0)
-  unfolding stepAt
+  unfolding stepBy
   drain-keeps e =
       let n = ctl w .length in
       let s = ctl w .swapped in
@@ -191,17 +191,17 @@ module _ {w : World} {t : Seen} (sound : Firm w) (inv : Inv w t) where
       ∙ (λ i. op-ops n g 0 more i ∷ sym (ops-unlogged n g more room (sound .good .words .log)) i) in
       (both-back 0 _
       (write-step (logApplied g 0) (after (opAt g 0 ∷ []) (writeCopy w)) e refl refl (stands-draining (s - 1) (n - 1)) (applied-next 0 more)
-      (clear-logApplied g 0) (clear-unlogged n g more room (sound .good .words .log) (inv .unused .log))
+      (clear-unlogged n g more room (sound .good .words .log) (inv .unused))
       (drain-stage (n - 1) (s - 1) (opAt g 0) (opsFrom (n - 1) 0 (unlogged n g)) (length-ops (n - 1) 0 (unlogged n g)) (omega arith) first (stage-at e))))
 
   keep-keeps : (k : ℕ) → ctl w .phase ≡ Keep k → Next (Keep k) (stepped (Keep k) 0)
-  unfolding stepAt
+  unfolding stepBy
   keep-keeps k e =
       let n = ctl w .length in
       let lt : k < n = placed-at e in
       (both-back 0 _
       (write-step (logApplied (w .log) k) (after (getD (opsOf w) k noOp ∷ []) (writeCopy w)) e refl refl (stands-keeping n (k + 1))
-      (applied-next k lt ∙ (λ i. after (sym (op-ops n (w .log) k lt) i ∷ []) (writeCopy w))) (clear-logApplied (w .log) k) (inv .unused .log)
+      (applied-next k lt ∙ (λ i. after (sym (op-ops n (w .log) k lt) i ∷ []) (writeCopy w))) (inv .unused)
       (keep-stage n ln lt (stage-at e))))
 
   -- the snapshot of slot k, on the way to phase q
@@ -212,7 +212,7 @@ module _ {w : World} {t : Seen} (sound : Firm w) (inv : Inv w t) where
   snap-step k u lt b c x in-reach stg = slot-back k _ (snap-keeps sound inv k lt b c x in-reach (λ _. inv .own u) (λ _. inv .atBegin u) stg)
 
   lastSnap-keeps : (k : ℕ) → ctl w .phase ≡ LastSnap k → Next (LastSnap k) (stepped (LastSnap k) k)
-  unfolding stepAt
+  unfolding stepBy
   lastSnap-keeps k e =
       let lt : k < slotCount = placed-at e in
       snap-step k (ap underway e) lt (stands-lastSnapping (k + 1) (omega arith)) refl refl
@@ -221,7 +221,7 @@ module _ {w : World} {t : Seen} (sound : Firm w) (inv : Inv w t) where
       (to-lastSnapping (from-lastSnap (stage-at e)) (k + 1))
 
   snap-phase-keeps : (k : ℕ) → ctl w .phase ≡ Snap k → Next (Snap k) (stepped (Snap k) k)
-  unfolding stepAt
+  unfolding stepBy
   snap-phase-keeps k e =
       let lt : k < slotCount = placed-at e in
       let b = stands-snapping (ctl w) (k + 1) (omega arith) in
@@ -235,7 +235,7 @@ module _ {w : World} {t : Seen} (sound : Firm w) (inv : Inv w t) where
 
   -- what was accepted when the publish began becomes what is published
   swap-keeps : ctl w .phase ≡ Swap → Next Swap (stepped Swap 0)
-  unfolding stepAt
+  unfolding stepBy
   swap-keeps e =
       let (all, lacks, em) = swap-stage (stage-at e) (inv .read) in
       let bg : t .atBegin ≡ t .accepted = begun-at e refl in
@@ -262,7 +262,7 @@ module _ {w : World} {t : Seen} (sound : Firm w) (inv : Inv w t) where
 
   -- the writer's own slot is freed, and the write copy and the log are emptied
   finish-keeps : ctl w .phase ≡ Finish → Next Finish (stepped Finish 0)
-  unfolding stepAt
+  unfolding stepBy
   finish-keeps e =
       let s = slotAt (w .state) 0 in
       let k = ctl w .free in
@@ -271,14 +271,14 @@ module _ {w : World} {t : Seen} (sound : Firm w) (inv : Inv w t) where
       (λ _ _. by Quiet (s .used) (λ _. record { idle = q .idle; alone = q .alone }) (λ _. q)) (vacated-view k (inv .each 0) q) in
       let all = ap (λ (p : Phase). reachAt p .cleared) e in
       free-keeps (firstThen k s) (snap-back 0 _
-      (write-keeps (firm-slot 0 (vacated k s) sound) h zeros empty (ap (λ (n : ℕ). replicate n 0) (fit-write .sized)) clear-zeros (λ x b. getD-zeros (length (w .log)) x)
+      (write-keeps (firm-slot 0 (vacated k s) sound) h zeros empty (ap (λ (n : ℕ). replicate n 0) (fit-write .sized)) (λ x b. getD-zeros (length (w .log)) x)
       (all-full (ctl w .first) all)
       (λ i. subst (λ (p : Phase). Within i (firstly (ctl w .first) (reachAt Gone)) (firstly (ctl w .first) (reachAt p))) (sym e)
       (within-firstly (ctl w .first) (record { cleared = omega arith; snapped = λ z. z; emptied = le-refl slotCount; resnapped = λ z. z })))
       (λ u. clash u refl) (λ u. clash u refl) (to-gone (from-finish (stage-at e)) refl) (λ _. ap (λ (n : ℕ). replicate n 0) (sound .good .words .log))))
 
   step-keeps : (p : Phase) → ctl w .phase ≡ p → Next p (stepped p (place p))
-  unfolding stepAt
+  unfolding stepBy
   step-keeps Idle e = same 0
   step-keeps Begin e = begin-keeps e
   step-keeps (Poll k) e = poll-keeps k e

@@ -9,7 +9,7 @@ use Rattle.read.specs.declared.Reply.{Reply}
 use Rattle.read.specs.Calls.{Lent}
 use Rattle.write.specs.Call.{Call, Create, On, Append, Open, Step, Run}
 use Rattle.write.specs.Steps.{stepAt}
-use Rattle.write.specs.Begins.{lawfulBatch, appendOn}
+use Rattle.write.specs.Begins.{lawfulBatch, appendBy}
 use Rattle.write.specs.Runs.{stepOn, runWhile, runOn}
 use Rattle.write.specs.Machine.{callOn, callRule}
 use Rattle.write.specs.World.{answerOf}
@@ -57,7 +57,7 @@ builder-ends = subst KnownEnds same-machine known-ends
 -- ---- an append
 
 pub tester : (os : List Op) (st : State) (l r g : List ℕ) → testing lawfulBatch (Append os) st l r g ≡ callRule (Append os) st l r g
-unfolding callRule callOn appendOn
+unfolding callRule callOn appendBy
 tester os st l r g = refl
 
 -- ---- a create

@@ -4,6 +4,7 @@ use mathlib.Core.Path.{_≡_, sym, ap, _∙_}
 use mathlib.Core.List.{List}
 use native.Mathlib.Omega.{arith}
 use lib.ListN.{length, drop}
+use Rattle.table.proofs.CopyOrder.{tidy-empty}
 use Rattle.write.specs.World.{World}
 use Rattle.format.specs.declared.Flaw.{Flaw}
 use Rattle.format.specs.Schedule.{headBytes, count, entriesIn, flawOf}
@@ -60,7 +61,7 @@ play-on-requires c κs =
     let s = a .schedule .now in
     let fit : (b : List ℕ) → b ≡ drop 5 s → (w : World) → length (transcript (callsIn b) w) ≤ length (a .out .now) =
     λ b p w. omega (arith, part-length s p w, t .before .if2 .left, entries (t .before .before .before)) in
-    (fresh-whole (t .fresh-state .ensures), fit _ (part-to-end s 5) _)
+    (fresh-whole (t .fresh-state .ensures), tidy-empty, tidy-empty, fit _ (part-to-end s 5) _)
 
 returns-3 : tie.Need-returns-3
 returns-3 c =

@@ -45,7 +45,7 @@ abbrev μ-loop : tie.MeasureT-loop
 begins : (a : tie.Start Inv-loop2 μ-loop2 Inv-loop μ-loop) → Sound (a .args .st) (a .args .left .now) (a .args .right .now) (a .args .log .now)
 unfolding slotCount
 begins a =
-    sound-judged (a .args .st) (a .args .left .now) (a .args .right .now) (a .args .log .now) (a .pre .0)
+    sound-judged (a .args .st) (a .args .left .now) (a .args .right .now) (a .args .log .now) (a .pre .0) (a .pre .1) (a .pre .2)
     (sym (length-map (a .args .st .slots) _) ∙ a .good .0 .1 .1 .1 .0 .1 .0 .1)
     (sym (length-map (a .args .st .snapshots) _) ∙ a .good .0 .1 .1 .1 .1 .0 .1 .0 .1)
 
@@ -71,11 +71,11 @@ own c d = read-slot (c .before .loop2 .slots) d (c .before .loop2 .inv .0 .sound
 -- what the step left of its slot is in its place
 put-back :
     (j : tie.Joined2 Inv-loop2 μ-loop2 Inv-loop μ-loop) →
-    (let v = j .before .before .before .before .before .before .before .before .before .before .before .before .before .before .before .before .before .loop2 in j .if2 .slots ≡ set (v .slots) (v .k) (j .before .before .before .before .before .before .before .before .before .before .before .advance .result .slot))
+    (let v = j .before .before .before .before .before .before .before .before .before .before .before .before .before .before .before .before .before .loop2 in j .if2 .slots ≡ set (v .slots) (v .k) (j .before .before .before .before .before .before .before .before .before .before .before .advance-by .result .slot))
 put-back j =
     let e = j .before .before .before .before .before .before .before .before .before .before .before .before .before .before .before .before in
     let v = e .before .loop2 .inv in
-    let x = j .before .before .before .before .before .before .before .before .before .before .before .advance .ensures in
+    let x = j .before .before .before .before .before .before .before .before .before .before .before .advance-by .ensures in
     ⊎-elim
     (λ w. w .2 ∙ put-other (going e) (v .0 .sound) (v .1) (own e _) x (w .0 .taken) (w .1 .ensures))
     (λ w. w .1 ∙ put-same (going e) (v .0 .sound) (v .1) (own e _) x (w .0 .left))
@@ -86,7 +86,7 @@ placed-next c =
     let e = c .before .before .before .before .before .before .before .before .before .before .before .before .before .before .before .before .before .before in
     let v = e .before .loop2 .inv in
     place-below
-    (sound-after (going e) (v .0 .sound) (v .1) (own e _) (c .before .before .before .before .before .before .before .before .before .before .before .before .before .advance .ensures) (put-back (c .before .before)) .good .whole)
+    (sound-after (going e) (v .0 .sound) (v .1) (own e _) (c .before .before .before .before .before .before .before .before .before .before .before .before .before .advance-by .ensures) (put-back (c .before .before)) .good .whole)
     (c .place2 .ensures)
 
 -- what the record's call said, by either way
@@ -118,7 +118,7 @@ unfolding slotCount
 loop-holds c =
     let a = c .before .before .before .before .before .before .before .before in
     plays-start (a .args .s .now) (a .args .out .now) (a .args .st) (a .args .left .now) (a .args .right .now) (a .args .log .now) (begins a)
-    (a .pre .1)
+    (a .pre .3)
 
 mul-facing : tie.Need-mul-facing Inv-loop2 μ-loop2 Inv-loop μ-loop
 mul-facing c = omega (arith, placed c)
@@ -140,10 +140,10 @@ loop2-holds c =
       f .place .ensures,
     )
 
-mul-advance : tie.Need-mul-advance Inv-loop2 μ-loop2 Inv-loop μ-loop
+mul-advance : tie.Need-mul-advance-by Inv-loop2 μ-loop2 Inv-loop μ-loop
 mul-advance c = omega (arith, inside c)
 
-mul-advance-2 : tie.Need-mul-advance-2 Inv-loop2 μ-loop2 Inv-loop μ-loop
+mul-advance-2 : tie.Need-mul-advance-by-2 Inv-loop2 μ-loop2 Inv-loop μ-loop
 mul-advance-2 c = omega (arith, inside (c .before))
 
 mul-own : tie.Need-mul-own Inv-loop2 μ-loop2 Inv-loop μ-loop
@@ -172,16 +172,16 @@ loop2-less : tie.Need-loop2-less Inv-loop2 μ-loop2 Inv-loop μ-loop
 loop2-less c =
     let b = c .before .before .before .before .before .before .before .before .before .before .before .before .before .before .before .before .before .before .before .before in
     let v = b .before .loop2 .inv in
-    let x = c .before .before .before .before .before .before .before .before .before .before .before .before .before .before .before .advance .ensures in
+    let x = c .before .before .before .before .before .before .before .before .before .before .before .before .before .before .before .advance-by .ensures in
     let w = put-back (c .before .before .before .before) in
     let q = going-steps (going b) (v .0 .sound) (v .1) (own b _) x w (c .before .before .place2 .ensures) (next-slot (going b) (v .0 .sound) (v .1) (own b _) x w _ (placed-next (c .before .before))) (c .went-on .ensures) in
-    ahead-less (b .before .loop2 .far) (b .before .loop2 .c) (c .went-on .result) (c .before .before .before .before .before .before .before .before .before .before .before .before .before .before .before .advance .result .control) (b .loop2-test .taken) (q .1)
+    ahead-less (b .before .loop2 .far) (b .before .loop2 .c) (c .went-on .result) (c .before .before .before .before .before .before .before .before .before .before .before .before .before .before .before .advance-by .result .control) (b .loop2-test .taken) (q .1)
 
 loop2-again : tie.Need-loop2-again Inv-loop2 μ-loop2 Inv-loop μ-loop
 loop2-again c =
     let b = c .before .before .before .before .before .before .before .before .before .before .before .before .before .before .before .before .before .before .before .before in
     let v = b .before .loop2 .inv in
-    let x = c .before .before .before .before .before .before .before .before .before .before .before .before .before .before .before .advance .ensures in
+    let x = c .before .before .before .before .before .before .before .before .before .before .before .before .before .before .before .advance-by .ensures in
     let w = put-back (c .before .before .before .before) in
     let q = going-steps (going b) (v .0 .sound) (v .1) (own b _) x w (c .before .before .place2 .ensures) (next-slot (going b) (v .0 .sound) (v .1) (own b _) x w _ (placed-next (c .before .before))) (c .went-on .ensures) in
     (q .0, c .before .before .place2 .ensures)
@@ -197,7 +197,10 @@ whole : (c : tie.In-loop Inv-loop2 μ-loop2 Inv-loop μ-loop) → c .before .loo
 whole c = plays-record (c .before .loop .inv) (c .loop-test .taken)
 
 turn-requires : tie.Need-turn-requires Inv-loop2 μ-loop2 Inv-loop μ-loop
-turn-requires c κs = whole (c .before .before .before .before .before .before .before .before .before)
+turn-requires c κs =
+    let i = c .before .before .before .before .before .before .before .before .before in
+    let w = i .before .loop .inv .sound .good .words in
+    (whole i, w .left, w .right)
 
 behind-requires : tie.Need-behind-requires Inv-loop2 μ-loop2 Inv-loop μ-loop
 behind-requires c κs = whole (c .before .before .before .before .before .before .before .before .before .before .before .before .before .before .before .before .before .before .before)
@@ -234,10 +237,10 @@ same-length : tie.Need-same-length Inv-loop2 μ-loop2 Inv-loop μ-loop
 same-length c = c .before .loop .inv .sized
 
 same-length-2 : tie.Need-same-length-2 Inv-loop2 μ-loop2 Inv-loop μ-loop
-same-length-2 c = c .before .loop .inv .sound .good .words .left .sized ∙ sym (begins (c .before .before .before .before .before .before .before .before .before .before) .good .words .left .sized)
+same-length-2 c = c .before .loop .inv .sound .good .words .left .fit .sized ∙ sym (begins (c .before .before .before .before .before .before .before .before .before .before) .good .words .left .fit .sized)
 
 same-length-3 : tie.Need-same-length-3 Inv-loop2 μ-loop2 Inv-loop μ-loop
-same-length-3 c = c .before .loop .inv .sound .good .words .right .sized ∙ sym (begins (c .before .before .before .before .before .before .before .before .before .before) .good .words .right .sized)
+same-length-3 c = c .before .loop .inv .sound .good .words .right .fit .sized ∙ sym (begins (c .before .before .before .before .before .before .before .before .before .before) .good .words .right .fit .sized)
 
 same-length-4 : tie.Need-same-length-4 Inv-loop2 μ-loop2 Inv-loop μ-loop
 same-length-4 c = c .before .loop .inv .sound .good .words .log ∙ sym (begins (c .before .before .before .before .before .before .before .before .before .before) .good .words .log)
@@ -248,10 +251,10 @@ returns c = (plays-reached (c .before .loop .inv) (c .loop-test .left), plays-en
 array-copy-out-facing : tie.Need-array-copy-out-facing Inv-loop2 μ-loop2 Inv-loop μ-loop
 array-copy-out-facing c = placed c
 
-array-copy-out-advance : tie.Need-array-copy-out-advance Inv-loop2 μ-loop2 Inv-loop μ-loop
+array-copy-out-advance : tie.Need-array-copy-out-advance-by Inv-loop2 μ-loop2 Inv-loop μ-loop
 array-copy-out-advance c = inside c
 
-array-read-advance : tie.Need-array-read-advance Inv-loop2 μ-loop2 Inv-loop μ-loop
+array-read-advance : tie.Need-array-read-advance-by Inv-loop2 μ-loop2 Inv-loop μ-loop
 array-read-advance c = inside (c .before)
 
 array-copy-out-own : tie.Need-array-copy-out-own Inv-loop2 μ-loop2 Inv-loop μ-loop

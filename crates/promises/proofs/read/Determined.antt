@@ -26,6 +26,7 @@ use Rattle.machine.proofs.create.Reads as create
 use Rattle.machine.proofs.drop.Reads as drop
 use Rattle.machine.proofs.enter.Reads as enter
 use Rattle.machine.proofs.go_on.Reads as go-on
+use Rattle.read.proofs.handles.handle_by.Reads as handles-handle-by
 use Rattle.read.proofs.handles.handle.Reads as handles-handle
 use Rattle.read.proofs.handles.create.Reads as handles-create
 use Rattle.read.proofs.order.orderly.Reads as orderly
@@ -126,6 +127,9 @@ enter-determined κs a r q s t h l = h ∙ sym l
 
 go-on-determined : Determines go-on.Post
 go-on-determined κs a r q s t h l = h ∙ sym l
+
+handles-handle-by-determined : Determines handles-handle-by.Post
+handles-handle-by-determined κs a r q s t h l = h ∙ sym l
 
 handles-handle-determined : Determines handles-handle.Post
 handles-handle-determined κs a r q s t h l = h ∙ sym l

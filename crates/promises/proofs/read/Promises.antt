@@ -4,6 +4,8 @@ use mathlib.Core.Bool.{Bool, _||_}
 use mathlib.Core.List.{List}
 use Rattle.promises.proofs.Contracts.{typed, Words, ref, Refs, refs, lends, κ₁, κ₂, κ₃, Leaves, Keeps, Keeps1, Keeps2}
 use Rattle.table.specs.declared.Answer.{Answer}
+use Rattle.table.specs.declared.Search.{Search}
+use Rattle.table.specs.Copy.{lookBy}
 use Rattle.read.specs.declared.Due.{Due}
 use Rattle.read.specs.declared.Guard.{Guard}
 use Rattle.read.specs.declared.Slot.{Slot}
@@ -17,7 +19,7 @@ use Rattle.read.specs.declared.Reply.{Reply}
 use Rattle.read.specs.declared.Handle.the-variants.{Drop, Enter, GoOn, Release, LookUp, WasDropped}
 use Rattle.read.specs.Machine.{same, isOpen, firstGuard, anyOpen, allOpen, isDue, isLoad, noSlot, newSlot, locks, sized, orderly, judged, row, fresh}
 use Rattle.read.specs.Admission.{entry}
-use Rattle.read.specs.Handles.{given, smallest, handleSigns, freed, entered, wentOn, released, guardedCopy, handleOn, createOn}
+use Rattle.read.specs.Handles.{given, smallest, handleSigns, freed, entered, wentOn, released, guardedCopy, handleBy, handleOn, createOn}
 use Rattle.read.specs.Calls.{Lent, slotAt, handleRule, createRule, viewRule, pairRule, startRule}
 use Rattle.read.proofs
 use Rattle.machine.proofs as whole
@@ -101,6 +103,12 @@ HandlePromise f =
     (c : Control) (i : ℕ) (s : Slot) (h : Handle) (l r : Words) →
     Keeps (typed κ₁ proofs.handles.handle.Kinds.ps) (proofs.handles.handle.Reads.Post κ₁)
     (c, (i, (s, (h, (ref (l .list), (ref (r .list), tt)))))) (f c i s h (l .list) (r .list))
+
+abbrev pub HandleByPromise : (Search → Control → ℕ → Slot → Handle → List ℕ → List ℕ → Made) → Type 0
+HandleByPromise f =
+    (how : Search) (c : Control) (i : ℕ) (s : Slot) (h : Handle) (l r : Words) →
+    Keeps (typed κ₁ proofs.handles.handle_by.Kinds.ps) (proofs.handles.handle_by.Reads.Post κ₁)
+    (how, (c, (i, (s, (h, (ref (l .list), (ref (r .list), tt))))))) (f how c i s h (l .list) (r .list))
 
 -- ---- create, on the slot that is first
 
@@ -201,7 +209,7 @@ pub kept :
     FreshPromise fresh × SlotAtPromise slotAt × RowPromise row × EntryPromise entry × FirstGuardPromise firstGuard × IsOpenPromise isOpen
     × AnyOpenPromise anyOpen × AllOpenPromise allOpen × IsDuePromise isDue × IsLoadPromise isLoad × NoSlotPromise noSlot
     × NewSlotPromise newSlot × FreedPromise freed × EnteredPromise entered × WentOnPromise (λ c s. wentOn c (s .due) s)
-    × ReleasedPromise released × GivenPromise given × VerdictPromise (λ c own s h. smallest (handleSigns c own s h)) × GuardedCopyPromise guardedCopy × HandlePromise handleOn
+    × ReleasedPromise released × GivenPromise given × VerdictPromise (λ c own s h. smallest (handleSigns c own s h)) × GuardedCopyPromise guardedCopy × HandlePromise handleOn × HandleByPromise (λ how. handleBy (lookBy how))
     × CreateOnPromise createOn × OrderlyPromise orderly
     × EitherPromise _||_ × LocksPromise locks × SamePromise same
     × SizedPromise sized × JudgePromise judged × StartPromise startRule × CreatePromise createRule

@@ -8,7 +8,8 @@ use lib.Dec.{eqb, ltb, leb}
 use lib.ListN.{length, getD, set, replicate}
 use Rattle.table.specs.Answers.{number}
 use Rattle.table.specs.Seek.{seek}
-use Rattle.table.specs.Copy.{words, zeros, usedRule}
+use Rattle.table.specs.declared.Search.the-variants.{Walk, Halve}
+use Rattle.table.specs.Copy.{words, zeros, lookBy, usedRule}
 use Rattle.table.specs.declared.Answer.the-variants as answer
 use Rattle.read.specs.declared.Due.{Due}
 use Rattle.read.specs.declared.Due.the-variants.{Nothing, Load, Restore}
@@ -28,16 +29,16 @@ use Rattle.read.specs.declared.Made.{Made}
 use Rattle.read.specs.declared.Reply.{Reply}
 use Rattle.read.specs.Machine.{standing, holding, openOn, withUse, withReading, slotCount, guardCount, logWords, shut, noGuards, isOpen, standsRight, putGuard, same, firstGuard, anyOpen, allOpen, isDue, isLoad, noSlot, newSlot, isGone, underway, wholeControl, withFree, behind, freeBelow, orderly, firstUnlawful, glanced, judged, fresh, row}
 use Rattle.read.specs.Admission.{handleNumber, entry}
-use Rattle.read.specs.Handles.{mistimed, smallest, handleSigns, madeOf, bumped, withDue, freed, loaded, entered, wentOn, released, copyOf, bit, handleOn, createOn}
+use Rattle.read.specs.Handles.{mistimed, smallest, handleSigns, madeOf, bumped, withDue, freed, loaded, entered, wentOn, released, copyOf, bit, handleBy, handleOn, createOn}
 use Rattle.read.specs.Calls.{slotAt, withSlot, refusal, replyOf, Lent, lent, handleReply, handleRule, createRule, viewRule, pairRule, startRule}
 use Rattle.table.proofs.Computes.{apart}
-use Rattle.promises.proofs.Witnesses.{copy, none, seven, noLog, wordAt, itself}
+use Rattle.promises.proofs.Witnesses.{copy, none, seven, falls, noLog, inside, wordAt, itself}
 use Rattle.promises.proofs.Contracts.{Words, slice}
 use Rattle.read.proofs.Computes.{rules}
 use Rattle.promises.proofs.read.Promises.{FreshPromise, SlotAtPromise, RowPromise, EntryPromise, FirstGuardPromise, IsOpenPromise}
 use Rattle.promises.proofs.read.Promises.{AnyOpenPromise, AllOpenPromise, IsDuePromise, IsLoadPromise, NoSlotPromise, NewSlotPromise}
 use Rattle.promises.proofs.read.Promises.{FreedPromise, EnteredPromise, WentOnPromise, ReleasedPromise, VerdictPromise, GuardedCopyPromise}
-use Rattle.promises.proofs.read.Promises.{HandlePromise, CreateOnPromise, OrderlyPromise, GivenPromise, EitherPromise, LocksPromise, SamePromise}
+use Rattle.promises.proofs.read.Promises.{HandlePromise, HandleByPromise, CreateOnPromise, OrderlyPromise, GivenPromise, EitherPromise, LocksPromise, SamePromise}
 use Rattle.promises.proofs.read.Promises.{SizedPromise, JudgePromise, StartPromise, CreatePromise, DropPromise, EnterPromise}
 use Rattle.promises.proofs.read.Promises.{GoOnPromise, WasDroppedPromise, OnHandlePromise, ReleasePromise, LookUpPromise, ViewPromise}
 use Rattle.promises.proofs.read.Promises.{PairPromise}
@@ -537,6 +538,16 @@ dropsUnlisted c i s h l r = let m = handleOn c i s h l r in madeOf c (m .answer)
 dropsUnlisted-wrong : HandlePromise dropsUnlisted → ⊥
 unfolding rules
 dropsUnlisted-wrong h = apart (λ m. m .free) refl (h idle 3 newSlot Drop none none refl)
+
+-- keys are searched by halving where a walk is asked for: of a copy out of order a key is missed
+handlesTrusting-wrong : HandleByPromise (λ how. handleBy (lookBy Halve)) → ⊥
+unfolding rules
+handlesTrusting-wrong h = apart (λ m. m .value) refl (h Walk idle 1 inside (LookUp 0 7) falls none refl)
+
+-- a look up finds nothing
+findsNothing-wrong : HandleByPromise (λ how. handleBy (λ key w. [])) → ⊥
+unfolding rules
+findsNothing-wrong h = apart (λ m. m .value) refl (h Halve idle 1 inside (LookUp 0 7) seven none refl)
 
 -- ---- create, on the slot that is first
 

@@ -4,8 +4,10 @@ use mathlib.Core.Bool.{Bool}
 use mathlib.Core.List.{List}
 use Rattle.table.specs.declared.Answer.{Answer}
 use Rattle.table.specs.Answers.{number}
-use Rattle.table.specs.Copy.{zeros, lawful, fitness, Out, applyRule, lookRule, usedRule, closeRule}
-use Rattle.promises.proofs.Contracts.{typed, Words, Ref, ref, κ₁, Leaves, Keeps, Keeps1}
+use Rattle.table.specs.declared.Search.{Search}
+use Rattle.table.specs.Copy.{zeros, lawful, fitness, Out, applyBy, applyRule, lookBy, lookRule, usedRule, closeRule}
+use Rattle.table.specs.Many.{lookAllRule}
+use Rattle.promises.proofs.Contracts.{typed, Words, Ref, ref, κ₁, κ₃, Leaves, Keeps, Keeps1}
 use Rattle.table.proofs
 
 -- ---- of numbers
@@ -27,6 +29,21 @@ abbrev pub LookPromise : (ℕ → List ℕ → List ℕ) → Type 0
 LookPromise f =
     (key : ℕ) (w : Words) →
     Keeps (typed κ₁ proofs.look_up.Kinds.ps) (proofs.look_up.Reads.Post κ₁) (ref (w .list), (key, tt)) (ref (f key (w .list)))
+
+abbrev pub LookByPromise : (Search → ℕ → List ℕ → List ℕ) → Type 0
+LookByPromise f =
+    (how : Search) (key : ℕ) (w : Words) →
+    Keeps (typed κ₁ proofs.look_up_by.Kinds.ps) (proofs.look_up_by.Reads.Post κ₁) (how, (ref (w .list), (key, tt)))
+    (ref (f how key (w .list)))
+
+-- many keys in a view, into an output
+abbrev pub LookAllPromise : (List ℕ → List ℕ → List ℕ → Out) → Type 0
+LookAllPromise f =
+    (v keys out : Words) →
+    let o = f (v .list) (keys .list) (out .list) in
+    Leaves (typed κ₃ proofs.look_up_all.Kinds.ps) (proofs.look_up_all.Reads.Post κ₃)
+    (ref (v .list), (ref (keys .list), (ref (out .list), tt))) (o .answer)
+    (ref (v .list), (ref (keys .list), (ref (o .copy), tt)))
 
 abbrev pub UsedPromise : (List ℕ → List ℕ) → Type 0
 UsedPromise f =
@@ -55,6 +72,14 @@ ApplyPromise f =
     (kind key amount : ℕ) →
     Changes (typed κ₁ proofs.apply.Kinds.ps) (proofs.apply.Reads.Post κ₁) (kind, (key, (amount, tt))) (f kind key amount)
 
+abbrev pub ApplyByPromise : (Search → ℕ → ℕ → ℕ → List ℕ → Out) → Type 0
+ApplyByPromise f =
+    (how : Search) (kind key amount : ℕ) (w : Words) →
+    let o = f how kind key amount (w .list) in
+    Leaves (typed κ₁ proofs.apply_by.Kinds.ps) (proofs.apply_by.Reads.Post κ₁)
+    (how, (ref (w .list), (kind, (key, (amount, tt))))) (o .answer)
+    (how, (ref (o .copy), (kind, (key, (amount, tt)))))
+
 abbrev pub AddPromise : (ℕ → ℕ → List ℕ → Out) → Type 0
 AddPromise f =
     (key amount : ℕ) → Changes (typed κ₁ proofs.add.Kinds.ps) (proofs.add.Reads.Post κ₁) (key, (amount, tt)) (f key amount)
@@ -68,7 +93,8 @@ ClearPromise = Changes (typed κ₁ proofs.clear.Kinds.ps) (proofs.clear.Reads.P
 -- ---- the rules keep them: no promise is false of every program
 
 pub kept :
-    NumberPromise number × LawfulPromise lawful × FitPromise fitness × LookPromise lookRule × UsedPromise usedRule
-    × ZeroPromise zeros × ClosePromise closeRule × ApplyPromise applyRule × AddPromise (applyRule 1)
+    NumberPromise number × LawfulPromise lawful × FitPromise fitness × LookByPromise lookBy × LookPromise lookRule
+    × LookAllPromise lookAllRule × UsedPromise usedRule
+    × ZeroPromise zeros × ClosePromise closeRule × ApplyByPromise applyBy × ApplyPromise applyRule × AddPromise (applyRule 1)
     × DropPromise (λ key. applyRule 2 key 0) × ClearPromise (applyRule 3 0 0)
 kept = search

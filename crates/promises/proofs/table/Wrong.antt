@@ -1,6 +1,6 @@
 -- Wrong programs, as definitions on lists, and for each a proof that the contract's promise (`Promises`) is false of it: one call, on
 -- values that the source's types have, where what the program does wrong is read off.
-use Prim.Native.Nat.{ℕ, zero, suc, _+_, _-_, _*_, _^_, _%_}
+use Prim.Native.Nat.{ℕ, zero, suc, _+_, _-_, _*_, _/_, _^_, _%_}
 use mathlib.Core.Path.{_≡_, refl, ap, _∙_}
 use mathlib.Core.Bool.{Bool, true, false, not, _&&_}
 use mathlib.Core.List.{List, [], _∷_, _++_}
@@ -10,16 +10,19 @@ use native.Mathlib.Omega.{arith}
 use Rattle.table.specs.declared.Answer.{Answer}
 use Rattle.table.specs.declared.Answer.the-variants.{Done, Length, Broken, Operation}
 use Rattle.table.specs.Answers.{number}
-use Rattle.table.specs.Seek.{seek}
-use Rattle.table.specs.Copy.{pairs, words, entries, spill, keyAt, countAt, usedOf, pairOf, placeOf, present, opened, closed, inserted, placed, added, dropped, removed, zeros, applied, lawful, fits, Out, applyRule, lookRule}
+use Rattle.table.specs.Seek.{seek, halve}
+use Rattle.table.specs.declared.Search.{Search}
+use Rattle.table.specs.declared.Search.the-variants.{Walk, Halve}
+use Rattle.table.specs.Many.{filled, told, toldAll, lookAllRule}
+use Rattle.table.specs.Copy.{pairs, words, entries, spill, keyAt, countAt, usedOf, pairOf, placeOf, present, hasKey, opened, closed, inserted, placed, added, dropped, removed, zeros, appliedBy, lawful, fits, Out, applyRule, applyBy, lookRule, lookBy}
 use Rattle.table.proofs.Computes.{rules, apart}
 use Rattle.table.proofs.CopyWords.{getD-zeros}
 use Rattle.table.proofs.CopyFind.{added-cases}
 use Rattle.read.specs.Handles.{bit}
-use Rattle.promises.proofs.Witnesses.{copyWith, copy, none, seven, wordAt, itself}
-use Rattle.promises.proofs.Contracts.{Words, slice}
+use Rattle.promises.proofs.Witnesses.{copyWith, copy, none, seven, falls, wordAt, itself}
+use Rattle.promises.proofs.Contracts.{below, Words, slice}
 use Rattle.promises.proofs.table.Promises.{NumberPromise, LawfulPromise, FitPromise, LookPromise, UsedPromise, ZeroPromise}
-use Rattle.promises.proofs.table.Promises.{ClosePromise, ApplyPromise, AddPromise, DropPromise, ClearPromise}
+use Rattle.promises.proofs.table.Promises.{ClosePromise, ApplyPromise, ApplyByPromise, LookByPromise, LookAllPromise, AddPromise, DropPromise, ClearPromise}
 
 -- ---- what the witnesses are made of
 
@@ -283,7 +286,7 @@ zero-key i =
 
 -- by a law: to compute the search takes as many steps as the square of the pairs
 noSpill-wrong : AddPromise noSpill → ⊥
-unfolding applied lawful applyRule
+unfolding appliedBy lawful applyBy
 noSpill-wrong h =
     apart (word 1)
     (added-cases (λ v. eqb (wordAt 1 (set v 1 0)) (wordAt 1 v) ≡ false) 7 1 (full .list)
@@ -381,6 +384,132 @@ looksCount key w = drop 1 (lookRule key w)
 looksCount-wrong : LookPromise looksCount → ⊥
 unfolding rules
 looksCount-wrong h = apart length refl (h 7 seven refl)
+
+-- words are trusted to be in order
+abbrev trusts : ℕ → List ℕ → List ℕ
+trusts = lookBy Halve
+
+trusts-wrong : LookPromise trusts → ⊥
+unfolding rules
+trusts-wrong h = apart length refl (h 7 falls refl)
+
+-- ---- look_up_by, apply_by
+
+-- it halves where a walk is asked for
+halvesAlways-wrong : LookByPromise (λ how. lookBy Halve) → ⊥
+unfolding rules
+halvesAlways-wrong h = apart length refl (h Walk 7 falls refl)
+
+-- the pair at a place, if it has the key
+abbrev looksAt : ℕ → List ℕ → ℕ → List ℕ
+looksAt key w i = elim (fits w && hasKey key w i) [ true ↦ take 2 (drop (2 * i + 2) w) | false ↦ [] ]
+
+-- halving that stops at any pair with the key: of two it may be the second
+abbrev meets : ℕ → List ℕ → ℕ → ℕ → ℕ → ℕ
+meets key w zero i n = i
+meets key w (suc f) i n =
+    elim (ltb 0 n) [
+      | true ↦
+          elim (eqb (keyAt w (i + n / 2)) key) [
+            | true ↦ i + n / 2
+            | false ↦
+                elim (leb key (keyAt w (i + n / 2)))
+                [ true ↦ meets key w f i (n / 2) | false ↦ meets key w f (i + n / 2 + 1) (n - n / 2 - 1) ]
+          ]
+      | false ↦ i
+    ]
+
+abbrev meetsAny : ℕ → List ℕ → List ℕ
+meetsAny key w = looksAt key w (meets key w (entries w) 0 (entries w))
+
+meetsAny-wrong : LookByPromise (λ how. meetsAny) → ⊥
+unfolding rules
+meetsAny-wrong h = apart (wordAt 1) refl (h Halve 7 twice refl)
+
+-- halving that goes behind the key: one place late
+abbrev late : ℕ → List ℕ → ℕ
+late key w = halve (λ i. ltb key (keyAt w i)) (entries w) 0 (entries w)
+
+looksLate-wrong : LookByPromise (λ how key w. looksAt key w (late key w)) → ⊥
+unfolding rules
+looksLate-wrong h = apart length refl (h Halve 7 seven refl)
+
+-- so that a key that is there is added once more
+abbrev addsLate : Search → ℕ → ℕ → ℕ → List ℕ → Out
+addsLate how kind key amount =
+    calling
+    (λ w. elim (hasKey key w (late key w)) [ true ↦ added key amount w | false ↦ inserted (late key w) key amount w ])
+    kind key amount
+
+addsLate-wrong : ApplyByPromise addsLate → ⊥
+unfolding rules
+addsLate-wrong h = apart (word 0) refl (h Halve 1 7 1 seven refl)
+
+-- an operation on words that are trusted to be in order
+appliesTrusting-wrong : ApplyByPromise (λ how. applyBy Halve) → ⊥
+unfolding rules
+appliesTrusting-wrong h = apart (word 0) refl (h Walk 2 7 0 falls refl)
+
+-- ---- look_up_all
+
+-- the views of these copies, an output for one key, and one that is too short
+abbrev view : (w : List ℕ) → below 64 (usedOf w) ≡ true → Words
+view w h = slice (usedOf w) h
+
+abbrev sought : Words
+sought = slice (7 ∷ []) refl
+
+abbrev blank : Words
+blank = slice (5 ∷ 6 ∷ []) refl
+
+abbrev short : Words
+short = slice (5 ∷ []) refl
+
+-- what is not refused is looked up in another way
+abbrev looking : (ℕ → List ℕ → List ℕ) → List ℕ → List ℕ → List ℕ → Out
+looking look v keys out =
+    let o = lookAllRule v keys out in
+    elim (eqb (number (o .answer)) 0) [ true ↦ record { answer = Done; copy = all keys } | false ↦ o ]
+  where
+    all : List ℕ → List ℕ
+    all [] = []
+    all (key ∷ keys) = told (look key (filled v)) ++ all keys
+
+-- the order of the view is trusted
+allTrust-wrong : LookAllPromise (looking (lookBy Halve)) → ⊥
+unfolding rules
+allTrust-wrong h = apart (word 0) refl (h (view (falls .list) refl) sought blank refl)
+
+-- halving that stops at any pair with the key
+allMeet-wrong : LookAllPromise (looking meetsAny) → ⊥
+unfolding rules
+allMeet-wrong h = apart (word 1) refl (h (view (twice .list) refl) sought blank refl)
+
+-- an output of another length is written as far as it goes
+abbrev writesShort : List ℕ → List ℕ → List ℕ → Out
+writesShort v keys out =
+    let o = lookAllRule v keys out in
+    record { answer = o .answer; copy = take (length out) (toldAll keys (filled v)) }
+
+writesShort-wrong : LookAllPromise writesShort → ⊥
+unfolding rules
+writesShort-wrong h = apart (word 0) refl (h (view (seven .list) refl) sought short refl)
+
+-- a view that is longer than its entry count says is taken
+abbrev anyView : List ℕ → List ℕ → List ℕ → Out
+anyView v keys out = record { answer = Done; copy = toldAll keys (filled v) }
+
+anyView-wrong : LookAllPromise anyView → ⊥
+unfolding rules
+anyView-wrong h = apart answer refl (h seven sought blank refl)
+
+-- whether a key is there is told by its count alone
+abbrev countsTell : List ℕ → List ℕ → List ℕ → Out
+countsTell v keys out = let o = lookAllRule v keys out in record { answer = o .answer; copy = set (o .copy) 0 (wordAt 1 (o .copy)) }
+
+countsTell-wrong : LookAllPromise countsTell → ⊥
+unfolding rules
+countsTell-wrong h = apart (word 0) refl (h (view (seven .list) refl) sought blank refl)
 
 -- ---- used
 

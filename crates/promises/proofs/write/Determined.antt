@@ -13,9 +13,12 @@ use Rattle.machine.proofs.publish.Reads as publish
 use Rattle.machine.proofs.try_publish.Reads as try-publish
 use Rattle.machine.proofs.flush.Reads as flush
 use Rattle.machine.proofs.take.Reads as take
+use Rattle.write.proofs.begins.extend_by.Reads as extend-by
 use Rattle.write.proofs.begins.extend_on.Reads as extend-on
+use Rattle.write.proofs.begins.append_by.Reads as append-by
 use Rattle.write.proofs.begins.append_on.Reads as append-on
 use Rattle.write.proofs.begins.open_on.Reads as open-on
+use Rattle.write.proofs.steps.advance_by.Reads as advance-by
 use Rattle.write.proofs.steps.advance.Reads as advance
 use Rattle.write.proofs.steps.holds.Reads as holds
 use Rattle.write.proofs.steps.place.Reads as place
@@ -72,15 +75,30 @@ flush-determined κs a r q s t h l = made-same h l
 take-determined : Determines take.Post
 take-determined κs a r q s t h l = made-same h l
 
+extend-by-determined :
+    (κs : _) (a : _) (r q : _) (s t : _) → extend-by.Post κs a r s → extend-by.Post κs a q t →
+    (r ≡ q) × (now (s .1 .1 .1 .1 .1 .0) ≡ now (t .1 .1 .1 .1 .1 .0)) × (now (s .1 .1 .1 .1 .1 .1 .0) ≡ now (t .1 .1 .1 .1 .1 .1 .0)) × (now (s .1 .1 .1 .1 .1 .1 .1 .0) ≡ now (t .1 .1 .1 .1 .1 .1 .1 .0))
+extend-by-determined κs a r q s t h l = same h l
+
 extend-on-determined :
     (κs : _) (a : _) (r q : _) (s t : _) → extend-on.Post κs a r s → extend-on.Post κs a q t →
     (r ≡ q) × (now (s .1 .1 .1 .1 .0) ≡ now (t .1 .1 .1 .1 .0)) × (now (s .1 .1 .1 .1 .1 .0) ≡ now (t .1 .1 .1 .1 .1 .0)) × (now (s .1 .1 .1 .1 .1 .1 .0) ≡ now (t .1 .1 .1 .1 .1 .1 .0))
 extend-on-determined κs a r q s t h l = same h l
 
+append-by-determined :
+    (κs : _) (a : _) (r q : _) (s t : _) → append-by.Post κs a r s → append-by.Post κs a q t →
+    (r ≡ q) × (now (s .1 .1 .1 .1 .1 .1 .1 .0) ≡ now (t .1 .1 .1 .1 .1 .1 .1 .0)) × (now (s .1 .1 .1 .1 .1 .1 .1 .1 .0) ≡ now (t .1 .1 .1 .1 .1 .1 .1 .1 .0)) × (now (s .1 .1 .1 .1 .1 .1 .1 .1 .1 .0) ≡ now (t .1 .1 .1 .1 .1 .1 .1 .1 .1 .0))
+append-by-determined κs a r q s t h l = same h l
+
 append-on-determined :
     (κs : _) (a : _) (r q : _) (s t : _) → append-on.Post κs a r s → append-on.Post κs a q t →
     (r ≡ q) × (now (s .1 .1 .1 .1 .1 .1 .0) ≡ now (t .1 .1 .1 .1 .1 .1 .0)) × (now (s .1 .1 .1 .1 .1 .1 .1 .0) ≡ now (t .1 .1 .1 .1 .1 .1 .1 .0)) × (now (s .1 .1 .1 .1 .1 .1 .1 .1 .0) ≡ now (t .1 .1 .1 .1 .1 .1 .1 .1 .0))
 append-on-determined κs a r q s t h l = same h l
+
+advance-by-determined :
+    (κs : _) (a : _) (r q : _) (s t : _) → advance-by.Post κs a r s → advance-by.Post κs a q t →
+    (r ≡ q) × (now (s .1 .1 .1 .1 .0) ≡ now (t .1 .1 .1 .1 .0)) × (now (s .1 .1 .1 .1 .1 .0) ≡ now (t .1 .1 .1 .1 .1 .0)) × (now (s .1 .1 .1 .1 .1 .1 .0) ≡ now (t .1 .1 .1 .1 .1 .1 .0))
+advance-by-determined κs a r q s t h l = same h l
 
 advance-determined :
     (κs : _) (a : _) (r q : _) (s t : _) → advance.Post κs a r s → advance.Post κs a q t →

@@ -4,6 +4,7 @@ use mathlib.Core.Path.{_≡_, refl}
 use mathlib.Core.Bool.{Bool}
 use mathlib.Core.List.{List, [], _∷_}
 use Rattle.promises.proofs.Contracts.{typed, Words, ref, Refs, refs, lends, κ₃, κ₄, Leaves, Keeps, Keeps1, Keeps2}
+use Rattle.table.specs.declared.Search.{Search}
 use Rattle.table.specs.Order.{op}
 use Rattle.read.specs.declared.Slot.{Slot}
 use Rattle.read.specs.declared.Phase.{Phase}
@@ -19,8 +20,8 @@ use Rattle.write.specs.declared.Moved.{Moved}
 use Rattle.write.specs.declared.Opening.{Opening}
 use Rattle.write.specs.declared.Opening.the-variants.{Publish, Try, Flush, Take}
 use Rattle.write.specs.Call.{Append, Open, Step, Run, appendOne, opsIn}
-use Rattle.write.specs.Steps.{at, polling, lastPolling, holds, stepAt}
-use Rattle.write.specs.Begins.{stepSigns, appendOn, openOn}
+use Rattle.write.specs.Steps.{at, polling, lastPolling, holds, stepBy, stepAt}
+use Rattle.write.specs.Begins.{stepSigns, appendBy, appendOn, openOn}
 use Rattle.write.specs.Machine.{callOn, callRule}
 use Rattle.write.proofs
 use Rattle.machine.proofs as whole
@@ -80,6 +81,31 @@ AppendOnPromise f =
     Leaves (typed κ₃ proofs.begins.append_on.Kinds.ps) (proofs.begins.append_on.Reads.Post κ₃)
     (kind, (key, (amount, (c, (s, (e, lends l r g)))))) (o .made)
     (kind, (key, (amount, (c, (s, (e, refs (o .left) (o .right) (o .log)))))))
+
+-- the same by how keys are searched
+abbrev pub AdvanceByPromise : (Search → Part) → Type 0
+AdvanceByPromise f =
+    (how : Search) (c : Control) (s : Slot) (e : ℕ) (l r g : Words) →
+    let o = f how c s e (l .list) (r .list) (g .list) in
+    Leaves (typed κ₃ proofs.steps.advance_by.Kinds.ps) (proofs.steps.advance_by.Reads.Post κ₃)
+    (how, (c, (s, (e, lends l r g)))) (o .made)
+    (how, (c, (s, (e, refs (o .left) (o .right) (o .log)))))
+
+abbrev pub ExtendByPromise : (Search → List ℕ → Part) → Type 0
+ExtendByPromise f =
+    (how : Search) (ws : Words) (c : Control) (s : Slot) (e : ℕ) (l r g : Words) →
+    let o = f how (ws .list) c s e (l .list) (r .list) (g .list) in
+    Leaves (typed κ₄ proofs.begins.extend_by.Kinds.ps) (proofs.begins.extend_by.Reads.Post κ₄)
+    (how, (ref (ws .list), (c, (s, (e, lends l r g))))) (o .made)
+    (how, (ref (ws .list), (c, (s, (e, refs (o .left) (o .right) (o .log))))))
+
+abbrev pub AppendByPromise : (Search → ℕ → ℕ → ℕ → Part) → Type 0
+AppendByPromise f =
+    (how : Search) (kind key amount : ℕ) (c : Control) (s : Slot) (e : ℕ) (l r g : Words) →
+    let o = f how kind key amount c s e (l .list) (r .list) (g .list) in
+    Leaves (typed κ₃ proofs.begins.append_by.Kinds.ps) (proofs.begins.append_by.Reads.Post κ₃)
+    (how, (kind, (key, (amount, (c, (s, (e, lends l r g))))))) (o .made)
+    (how, (kind, (key, (amount, (c, (s, (e, refs (o .left) (o .right) (o .log))))))))
 
 -- ---- on the whole machine
 
@@ -147,6 +173,8 @@ begin-leaves o st l r g =
 pub kept :
     HoldsPromise holds × PlacePromise place × UnderwayPromise (λ c. underway (c .phase)) × AtPromise at
     × PollingPromise polling × LastPollingPromise lastPolling × StepVerdictPromise (λ k c. smallest (stepSigns k c)) × OpenOnPromise openOn × AdvancePromise (λ c. stepAt (c .phase) c)
+    × AdvanceByPromise (λ how c. stepBy how (c .phase) c) × ExtendByPromise (λ how ws. appendBy how (opsIn ws))
+    × AppendByPromise (λ how kind key amount. appendBy how (op kind key amount ∷ []))
     × ExtendOnPromise (λ ws. appendOn (opsIn ws)) × AppendOnPromise (λ kind key amount. appendOn (op kind key amount ∷ []))
     × ExtendPromise (λ ws. callRule (Append (opsIn ws))) × AppendPromise (λ kind key amount. callRule (appendOne kind key amount))
     × StepPromise (callRule Step) × RunPromise (callRule Run)

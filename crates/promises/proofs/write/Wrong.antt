@@ -8,11 +8,12 @@ use lib.Dec.{eqb, ltb, leb}
 use lib.ListN.{length, take, replicate}
 use Rattle.table.specs.Answers.{number}
 use Rattle.table.specs.Copy.{zeros, lawful}
+use Rattle.table.specs.declared.Search.the-variants.{Walk, Halve}
 use Rattle.table.specs.Order.{Op, op}
 use Rattle.table.specs.declared.Answer.the-variants as answer
 use Rattle.read.specs.declared.Slot.{Slot}
 use Rattle.read.specs.declared.Phase.{Phase}
-use Rattle.read.specs.declared.Phase.the-variants.{Idle, Begin, Poll, Copy, Drain, Swap, Snap, Lock, LastPoll, Finish, Gone}
+use Rattle.read.specs.declared.Phase.the-variants.{Idle, Begin, Poll, Copy, Drain, Keep, Swap, Snap, Lock, LastPoll, Finish, Gone}
 use Rattle.read.specs.declared.Job.{Job}
 use Rattle.read.specs.declared.Job.the-variants.{Publish, Try, TakeFirst}
 use Rattle.read.specs.declared.Control.{Control}
@@ -27,16 +28,16 @@ use Rattle.write.specs.declared.Moved.{Moved}
 use Rattle.write.specs.declared.Opening.{Opening}
 use Rattle.write.specs.declared.Opening.the-variants as opening
 use Rattle.write.specs.Call.{Run, opsIn}
-use Rattle.write.specs.Steps.{at, withLog, swappedOver, draining, polling, beginning, lastPolling, holds, moved, refused, stopped, ofLeft, ofRight, logApplied, over, unlogged, stepAt}
-use Rattle.write.specs.Begins.{writerSigns, stepSigns, batchRoom, allLawful, lawfulBatch, crowds, operatedAll, madeAtOnce, appendFirst, appended, appendOn, columnOf, begun, value, opened}
+use Rattle.write.specs.Steps.{at, withLog, swappedOver, draining, polling, beginning, lastPolling, holds, moved, refused, stopped, ofLeft, ofRight, logApplied, over, unlogged, stepBy, stepAt}
+use Rattle.write.specs.Begins.{writerSigns, stepSigns, batchRoom, allLawful, lawfulBatch, crowds, operatedAll, madeAtOnce, appendFirst, appended, appendBy, appendOn, columnOf, begun, value, opened}
 use Rattle.write.specs.Runs.{snapAt, putBack, lift, stepOn, enough, runWhile}
 use Rattle.write.specs.Machine.{going, callRule}
 use Rattle.write.proofs.Cases.{withJob}
 use Rattle.table.proofs.Computes.{apart}
-use Rattle.promises.proofs.Witnesses.{none, seven, noLog, inside, wordAt}
+use Rattle.promises.proofs.Witnesses.{none, seven, falls, noLog, inside, wordAt}
 use Rattle.promises.proofs.Contracts.{Words, slice}
 use Rattle.write.proofs.Computes.{rules}
-use Rattle.promises.proofs.write.Promises.{Part, Whole, Beginning, HoldsPromise, PlacePromise, OpenOnPromise, AdvancePromise, ExtendOnPromise, AppendOnPromise}
+use Rattle.promises.proofs.write.Promises.{Part, Whole, Beginning, HoldsPromise, PlacePromise, OpenOnPromise, AdvancePromise, AdvanceByPromise, ExtendOnPromise, ExtendByPromise, AppendOnPromise, AppendByPromise}
 use Rattle.promises.proofs.write.Promises.{UnderwayPromise, AtPromise, PollingPromise, LastPollingPromise, StepVerdictPromise}
 use Rattle.promises.proofs.write.Promises.{ExtendPromise, AppendPromise, StepPromise, RunPromise, PublishPromise, TryPromise, FlushPromise, TakePromise}
 use Rattle.read.proofs.Cases.{stateOf, withLock}
@@ -328,6 +329,17 @@ standsStill-wrong : AdvancePromise standsStill → ⊥
 unfolding rules
 standsStill-wrong h = apart movedTo refl (h (fitting Begin TakeFirst true true 0 0) newSlot 0 none none noLog refl)
 
+-- ---- advance_by
+
+-- keys are searched by halving where a walk is asked for: a key that is there is placed once more
+advancesTrusting-wrong : AdvanceByPromise (λ how c. stepBy Halve (c .phase) c) → ⊥
+unfolding rules
+advancesTrusting-wrong h = apart (λ o. wordAt 0 (o .right)) refl (h Walk (fitting (Keep 0) Publish false false 1 0) newSlot 0 falls falls log7 refl)
+
+advancesStanding-wrong : AdvanceByPromise (λ how. standsStill) → ⊥
+unfolding rules
+advancesStanding-wrong h = apart movedTo refl (h Halve (fitting Begin TakeFirst true true 0 0) newSlot 0 none none noLog refl)
+
 -- ---- append, on slot 0
 
 -- a program on operations: on those of words, and on a single one
@@ -339,18 +351,18 @@ single f kind key amount = f (op kind key amount ∷ [])
 
 -- what is made of operations that are admitted
 abbrev effect : List Op → Part
-effect os c = appended (c .first) os c
+effect os c = appended Walk (c .first) os c
 
 -- judged by a test of the operations and by how many the log is asked to hold, with an effect
-abbrev appendBy : (List Op → Bool) → (List Op → ℕ) → (List Op → Part) → List Op → Part
-appendBy good n f os c s e l r g =
+abbrev appendIf : (List Op → Bool) → (List Op → ℕ) → (List Op → Part) → List Op → Part
+appendIf good n f os c s e l r g =
     elim (smallest (writerSigns 7 (not (good os)) (crowds (n os) c) c s))
     [ Admitted ↦ f os c s e l r g | Refused a ↦ lent (refused a c s e) l r g ]
 
 -- while `first` slot 0's epoch grows by this
 abbrev epochBy : (List Op → ℕ) → List Op → Part
 epochBy n =
-    appendBy lawfulBatch length
+    appendIf lawfulBatch length
     (λ os c s e l r g.
     let o = effect os c s e l r g in
     let t : Slot = elim (c .first) [ true ↦ withDue ((s .epoch + n os) % 2 ^ 64) (s .due) s | false ↦ s ] in
@@ -366,7 +378,7 @@ epochStays-wrong h = apart (λ o. o .made .slot .epoch) refl (h 1 7 3 idle newSl
 
 -- into the log while `first` too
 abbrev logsFirst : List Op → Part
-logsFirst = appendBy lawfulBatch length (appended false)
+logsFirst = appendIf lawfulBatch length (appended Walk false)
 
 logsFirst-wrong : AppendOnPromise (single logsFirst) → ⊥
 unfolding rules
@@ -375,18 +387,27 @@ logsFirst-wrong h = apart (λ o. wordAt 0 (o .log)) refl (h 1 7 3 idle newSlot 0
 -- to the copy that is read
 abbrev toRead : List Op → Part
 toRead =
-    appendBy lawfulBatch length
+    appendIf lawfulBatch length
     (λ os c s e l r g.
     elim (c .first) [
       | true ↦
           let f = operatedAll os in
-          lent (appendFirst os c s e l r g .made) (ofRight (c .right) f l) (ofLeft (c .right) f r) g
-      | false ↦ appended false os c s e l r g
+          lent (appendFirst Walk os c s e l r g .made) (ofRight (c .right) f l) (ofLeft (c .right) f r) g
+      | false ↦ appended Walk false os c s e l r g
     ])
 
 toRead-wrong : AppendOnPromise (single toRead) → ⊥
 unfolding rules
 toRead-wrong h = apart (λ o. wordAt 0 (o .left)) refl (h 1 7 3 idle newSlot 0 none none noLog refl)
+
+-- keys are searched by halving where a walk is asked for
+appendsTrusting-wrong : AppendByPromise (λ how. single (appendBy Halve)) → ⊥
+unfolding rules
+appendsTrusting-wrong h = apart (λ o. wordAt 0 (o .right)) refl (h Walk 1 7 3 idle newSlot 0 falls falls noLog refl)
+
+appendsStaying-wrong : AppendByPromise (λ how. single epochStays) → ⊥
+unfolding rules
+appendsStaying-wrong h = apart (λ o. o .made .slot .epoch) refl (h Halve 1 7 3 idle newSlot 0 none none noLog refl)
 
 -- ---- a batch, on slot 0
 
@@ -419,7 +440,7 @@ answeredOn o = number (o .made .answer)
 -- those that the log has room for are taken
 abbrev takesWhatFits : List Op → Part
 takesWhatFits =
-    appendBy lawfulBatch (λ os. 0) (λ os c. effect (elim (c .first) [ true ↦ os | false ↦ take (logRoom - c .length) os ]) c)
+    appendIf lawfulBatch (λ os. 0) (λ os c. effect (elim (c .first) [ true ↦ os | false ↦ take (logRoom - c .length) os ]) c)
 
 takesWhatFits-wrong : ExtendOnPromise (inWords takesWhatFits) → ⊥
 unfolding rules
@@ -471,7 +492,7 @@ ignoresTail-wrong h = apart answeredOn refl (h torn idle newSlot 0 none none noL
 
 -- one more is taken than a batch may have
 abbrev oneTooMany : List Op → Part
-oneTooMany = appendBy (λ os. leb (length os) (batchRoom + 1) && allLawful os) length effect
+oneTooMany = appendIf (λ os. leb (length os) (batchRoom + 1) && allLawful os) length effect
 
 oneTooMany-wrong : ExtendOnPromise (inWords oneTooMany) → ⊥
 unfolding rules
@@ -487,11 +508,20 @@ emptyRests-wrong h = apart (λ o. o .made .slot .epoch) refl (h nothing idle new
 
 -- a full log refuses a batch of none too
 abbrev fullRefuses : List Op → Part
-fullRefuses = appendBy lawfulBatch (λ os. elim (ltb 0 (length os)) [ true ↦ length os | false ↦ 1 ]) effect
+fullRefuses = appendIf lawfulBatch (λ os. elim (ltb 0 (length os)) [ true ↦ length os | false ↦ 1 ]) effect
 
 fullRefuses-wrong : ExtendOnPromise (inWords fullRefuses) → ⊥
 unfolding rules
 fullRefuses-wrong h = apart answeredOn refl (h nothing (logging logRoom) newSlot 0 none none noLog refl)
+
+-- keys are searched by halving where a walk is asked for
+extendsTrusting-wrong : ExtendByPromise (λ how. inWords (appendBy Halve)) → ⊥
+unfolding rules
+extendsTrusting-wrong h = apart (λ o. wordAt 0 (o .right)) refl (h Walk two idle newSlot 0 falls falls noLog refl)
+
+extendsBackwards-wrong : ExtendByPromise (λ how. inWords backwards) → ⊥
+unfolding rules
+extendsBackwards-wrong h = apart (λ o. wordAt 0 (o .right)) refl (h Halve addDrop idle newSlot 0 none none noLog refl)
 
 -- ---- publish, try, flush and take, on slot 0
 
@@ -545,7 +575,7 @@ append-epochStays-wrong h = apart epoch0 refl (h 1 7 3 fresh none none noLog ref
 
 -- append: a full log takes one more, which is counted and lost
 abbrev oneMore : List Op → Part
-oneMore = appendBy lawfulBatch (λ os. 0) effect
+oneMore = appendIf lawfulBatch (λ os. 0) effect
 
 append-oneMore-wrong : AppendPromise (appends oneMore) → ⊥
 unfolding rules
@@ -663,22 +693,22 @@ publishesAll-wrong h = apart phased refl (h later none none noLog refl)
 
 -- ---- step and run
 
-abbrev stepBy : Part → Whole
-stepBy f st l r g = let i = place (st .control .phase) in lift i st (f (st .control) (slotAt st i) (snapAt st i) l r g)
+abbrev stepOf : Part → Whole
+stepOf f st l r g = let i = place (st .control .phase) in lift i st (f (st .control) (slotAt st i) (snapAt st i) l r g)
 
 -- a reader inside on slot 1, whose snapshot was seen
 abbrev heldAt1 : State
 heldAt1 = with1 (fitting (Poll 1) Publish false false 0 0) inside 1
 
-step-heldMovesOn-wrong : StepPromise (judging (going 12 (stepBy heldMovesOn))) → ⊥
+step-heldMovesOn-wrong : StepPromise (judging (going 12 (stepOf heldMovesOn))) → ⊥
 unfolding rules
 step-heldMovesOn-wrong h = apart (λ o. place (o .made .state .control .phase)) refl (h heldAt1 none none noLog refl)
 
-step-pollPasses-wrong : StepPromise (judging (going 12 (stepBy pollPasses))) → ⊥
+step-pollPasses-wrong : StepPromise (judging (going 12 (stepOf pollPasses))) → ⊥
 unfolding rules
 step-pollPasses-wrong h = apart answered refl (h heldAt1 none none noLog refl)
 
-step-snapsFree-wrong : StepPromise (judging (going 12 (stepBy snapsFree))) → ⊥
+step-snapsFree-wrong : StepPromise (judging (going 12 (stepOf snapsFree))) → ⊥
 unfolding rules
 step-snapsFree-wrong h = apart snapped1 refl (h (with1 (fitting (Snap 1) Publish false false 0 0) noSlot 1) none none noLog refl)
 
@@ -718,6 +748,6 @@ unfolding rules
 run-oneStep-wrong h = apart phased refl (h (with1 (fitting (Snap (slotCount - 2)) Publish false false 0 0) noSlot 0) none none noLog refl)
 
 -- a run whose take polls by the last publish's snapshots: a reader that entered since is passed
-run-oldSnapshots-wrong : RunPromise (judging (going 13 (runWhile (stepBy oldSnapshots) enough 0))) → ⊥
+run-oldSnapshots-wrong : RunPromise (judging (going 13 (runWhile (stepOf oldSnapshots) enough 0))) → ⊥
 unfolding rules
 run-oldSnapshots-wrong h = apart answered refl (h (with1 (fitting Lock TakeFirst false false 0 0) inside 0) none none noLog refl)

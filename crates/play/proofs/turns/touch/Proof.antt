@@ -1,7 +1,9 @@
 -- What the call on the handle gives, where there is such a slot.
 use mathlib.Core.Path.{sym, ap, _∙_}
 use borrow.Author.Tests.{le-leb, lt-leb}
+use Rattle.table.specs.declared.Search.the-variants.{Halve}
 use Rattle.read.specs.Machine.{slotTotal}
+use Rattle.read.proofs.Rising.{handle-rising}
 use Rattle.play.specs.Turns.{movedBy, touched}
 use native.Mathlib.Omega.{arith}
 use borrow.Author.Needs.{needs}
@@ -17,8 +19,9 @@ returns c =
 returns-2 : tie.Need-returns-2
 returns-2 c =
     let a = c .before .before .before .before .before .args in
+    let t = c .before .before .before .before .before .pre in
     c .moved-by .ensures
-    ∙ ap (movedBy (a .c)) (c .before .handle .ensures)
+    ∙ ap (movedBy (a .c)) (c .before .handle-by .ensures ∙ handle-rising Halve (a .c) (a .i) (a .s) (a .left .now) (a .right .now) (t .0 .rising) (t .1 .rising) (a .h))
     ∙ sym (rw (lt-leb slotTotal (a .i) (c .before .before .if1 .left), touched))
 
 pub touch-spec : {M : Type 1} → statement M

@@ -6,7 +6,9 @@ use Rattle.play.specs.declared.schedule.Act.{Act}
 use Rattle.play.specs.Turns.{meantAt, movedBy, turnOn}
 use native.Mathlib.Omega.{arith}
 use borrow.Author.Needs.{needs}
-use Rattle.table.proofs.Needs.{all3, all16}
+use Rattle.table.specs.declared.Search.the-variants.{Halve}
+use Rattle.table.proofs.Needs.{all3, all4, all6}
+use Rattle.write.proofs.Rising.{append-rising}
 use Rattle.play.proofs.turns.turn.Statement.{statement}
 use Rattle.play.proofs.turns.turn.Tie as tie
 
@@ -28,7 +30,9 @@ returns-3 : tie.Need-returns-3
 unfolding turnOn
 returns-3 c =
     let a = c .before .before .before .before .before .before .before .before .before .before .before .before .before .before .before .before .before .args in
-    c .before .before .before .before .before .before .append-on .ensures
+    let t = c .before .before .before .before .before .before .before .before .before .before .before .before .before .before .before .before .before .pre in
+    c .before .before .before .before .before .before .append-by .ensures
+    ∙ append-rising Halve (a .c) (a .s) 0 (a .left .now) (a .right .now) (a .log .now) (t .1) (t .2) _
     ∙ sym (ap (λ (k : Act). turnOn (meantAt (a .schedule .now) (a .at) k) (a .i) (a .c) (a .s) (a .left .now) (a .right .now) (a .log .now)) (c .before .before .before .before .before .before .before .before .before .before .before .call2 .given .1))
 
 returns-4 : tie.Need-returns-4
@@ -60,6 +64,17 @@ returns-7 c =
     ap (λ (x : Moved). lent x (a .left .now) (a .right .now) (a .log .now)) (c .moved-as2 .ensures)
     ∙ sym (ap (λ (k : Act). turnOn (meantAt (a .schedule .now) (a .at) k) (a .i) (a .c) (a .s) (a .left .now) (a .right .now) (a .log .now)) (c .before .enum-told3 .given .1))
 
+-- the copies are as they were
+touch-requires : tie.Need-touch-requires
+touch-requires c κs =
+    let p = c .before .before .before .before .before .before .before .before .before .pre in
+    (p .1, p .2)
+
+batch-requires : tie.Need-batch-requires
+batch-requires c κs =
+    let p = c .before .before .before .before .before .before .before .before .before .before .pre in
+    (omega arith, p .1, p .2)
+
 pub turn-spec : {M : Type 1} → statement M
 turn-spec =
-    tie.close (all3 (all3 (all16 tie.spec (omega arith) returns (λ c. search needs) (λ c. search needs) returns-2) (omega arith) returns-3) (omega arith) returns-4 returns-5 returns-6 returns-7)
+    tie.close (all3 (all3 (all6 (all4 (all4 tie.spec (omega arith) touch-requires) (omega arith) batch-requires) (omega arith) returns (λ c. search needs) (λ c. search needs) returns-2) (omega arith) returns-3) (omega arith) returns-4 returns-5 returns-6 returns-7)

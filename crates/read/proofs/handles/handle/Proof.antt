@@ -1,22 +1,12 @@
--- By the verdict.
-use mathlib.Core.Path.{sym, _∙_}
-use native.Mathlib.Omega.{arith}
-use Rattle.table.proofs.Needs.{all5}
-use Rattle.read.proofs.Cases.{handle-refused, handle-made}
+-- A walk is what the rule of any words says.
+use borrow.Author.Needs.{needs}
+use Rattle.table.specs.Copy.{lookBy, lookRule}
 use Rattle.read.proofs.handles.handle.Statement.{statement}
 use Rattle.read.proofs.handles.handle.Tie as tie
 
 returns : tie.Need-returns
-returns c =
-    let told = c .before .before in
-    let a = told .before .before .before .before .before .args in
-    c .made-of .ensures ∙ sym (handle-refused (a .c) (a .i) (a .s) (a .h) (a .left .now) (a .right .now) _ (sym (told .before .before .verdict .ensures) ∙ told .v .given .1))
-
-returns-2 : tie.Need-returns-2
-returns-2 c =
-    let a = c .before .before .before .before .before .before .args in
-    c .act .ensures ∙ sym (handle-made (a .c) (a .i) (a .s) (a .h) (a .left .now) (a .right .now) (sym (c .before .before .before .verdict .ensures) ∙ c .before .enum-told .given .1))
+unfolding lookBy lookRule
+returns c = c .handle-by .ensures
 
 pub handle-spec : {M : Type 1} → statement M
-handle-spec =
-    tie.close (all5 tie.spec (omega arith) returns returns-2)
+handle-spec = tie.close (tie.spec (λ c κs. search needs) returns)

@@ -26,7 +26,7 @@ returns-2 : tie.Need-returns-2
 returns-2 c =
     let r = c .before .before .before .before .before .before in
     let a = r .before .before .before .before .args in
-    appended-later (op (a .kind) (a .key) (a .amount) ∷ []) (a .c) (a .s) (a .e) (a .left .now) (a .right .now) (a .log .now) (r .if1 .left) refl (c .before .with-log .ensures) (c .value2 .ensures) (c .before .before .before .before .enlog .ensures)
+    appended-later (a .how) (op (a .kind) (a .key) (a .amount) ∷ []) (a .c) (a .s) (a .e) (a .left .now) (a .right .now) (a .log .now) (r .if1 .left) refl (c .before .with-log .ensures) (c .value2 .ensures) (c .before .before .before .before .enlog .ensures)
 
 pub appended-spec : {M : Type 1} → statement M
 appended-spec =

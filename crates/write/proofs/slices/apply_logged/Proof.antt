@@ -8,7 +8,7 @@ use Rattle.write.proofs.slices.apply_logged.Tie as tie
 returns : tie.Need-returns
 returns c =
     let a = c .before .before .before .before .before .before .before .before .before .before .args in
-    logged-applied (a .log .now) (a .i) (a .w .now) (c .before .before .before .before .before .before .before .if1 .taken) (c .before .before .before .before .before .before .fetch .ensures) (c .before .before .before .before .before .fetch2 .ensures) (c .before .before .before .before .fetch3 .ensures) (c .before .before .apply .ensures)
+    logged-applied (a .how) (a .log .now) (a .i) (a .w .now) (c .before .before .before .before .before .before .before .if1 .taken) (c .before .before .before .before .before .before .fetch .ensures) (c .before .before .before .before .before .fetch2 .ensures) (c .before .before .before .before .fetch3 .ensures) (c .before .before .apply-by .ensures)
 
 pub apply-logged-spec : {M : Type 1} → statement M
 apply-logged-spec =

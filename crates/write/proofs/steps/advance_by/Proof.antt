@@ -3,21 +3,21 @@ use native.Mathlib.Omega.{arith}
 use borrow.Author.Needs.{needs}
 use Rattle.table.proofs.Needs.{all3, all15, all16}
 use Rattle.write.proofs.Arms.{step-idle, step-begin, step-poll, step-copy, step-drain, step-keep, step-swap, step-snap, step-null, step-lock, step-last-snap, step-last-poll, step-finish, step-gone}
-use Rattle.write.proofs.steps.advance.Statement.{statement}
-use Rattle.write.proofs.steps.advance.Tie as tie
+use Rattle.write.proofs.steps.advance_by.Statement.{statement}
+use Rattle.write.proofs.steps.advance_by.Tie as tie
 
 returns-5 : tie.Need-returns-5
 returns-5 c =
     let a = c .before .before .before .before .before .before .before .before .before .before .before .before .before .before .before .before .before .before .before .args in
-    step-drain (a .c) (a .s) (a .e) (a .left .now) (a .right .now) (a .log .now) (c .before .before .before .before .before .before .before .before .before .before .before .before .before .before .enum-told4 .given .1) (c .before .drained .ensures) (c .moved .ensures) (c .before .before .before .before .before .before .before .before .before .before .replay .ensures) (c .before .before .before .before .unlog .ensures)
+    step-drain (a .how) (a .c) (a .s) (a .e) (a .left .now) (a .right .now) (a .log .now) (c .before .before .before .before .before .before .before .before .before .before .before .before .before .before .enum-told4 .given .1) (c .before .drained .ensures) (c .moved .ensures) (c .before .before .before .before .before .before .before .before .before .before .replay .ensures) (c .before .before .before .before .unlog .ensures)
 
 returns-13 : tie.Need-returns-13
 returns-13 c =
     let a = c .before .before .before .before .before .before .before .before .before .before .before .before .before .before .before .before .before .before .before .args in
-    step-finish (a .c) (a .s) (a .e) (a .left .now) (a .right .now) (a .log .now) (c .before .before .before .before .before .before .before .before .before .before .before .before .before .before .enum-told8 .given .1) (c .before .finished .ensures) (c .before .before .vacated .ensures) (c .moved-to8 .ensures) (c .before .before .before .before .before .before .before .before .before .before .before .erase .ensures) (c .before .before .before .before .before .zero .ensures)
+    step-finish (a .how) (a .c) (a .s) (a .e) (a .left .now) (a .right .now) (a .log .now) (c .before .before .before .before .before .before .before .before .before .before .before .before .before .before .enum-told8 .given .1) (c .before .finished .ensures) (c .before .before .vacated .ensures) (c .moved-to8 .ensures) (c .before .before .before .before .before .before .before .before .before .before .before .erase .ensures) (c .before .before .before .before .before .zero .ensures)
 
-pub advance-spec : {M : Type 1} → statement M
-advance-spec =
+pub advance-by-spec : {M : Type 1} → statement M
+advance-by-spec =
     tie.close
     (all3
     (all3
