@@ -4,6 +4,7 @@
 //!   bench [RECORDS]                              times
 //!   bench plays PLAYER SCHEDULE TIMES [RECORDS]  that many plays and no more, for something that counts instructions
 //!   bench count CALL SCHEDULE [RECORDS]          how many records of that call it has
+//!   bench looks FORM PAIRS present|absent ROUNDS that many rounds of 512 look ups on lent words, likewise
 //!
 //! Three more schedules are there for their instructions alone: handles that come and go with 1, 8 or 15 slots in use.
 //!
@@ -11,7 +12,9 @@
 //! only ever adds. The reference walks through the pairs of a table; `halving` is the same program with a search by
 //! halving.
 
-use common::{call, file, kind, schedule, Player, Random, Record, BATCH_ROOM, ENTRY, SLOTS};
+mod forms;
+
+use common::{call, file, kind, schedule, Player, Random, Record, BATCH_ROOM, ENTRY, PAIRS, SLOTS};
 use std::time::Instant;
 
 const TURNS: usize = 15;
@@ -173,6 +176,19 @@ fn count(words: &mut impl Iterator<Item = String>) -> Option<()> {
     Some(())
 }
 
+fn looks(words: &mut impl Iterator<Item = String>) -> Option<()> {
+    let form = words.next()?;
+    let (_, form) = forms::FORMS.into_iter().find(|(name, _)| *name == form)?;
+    let pairs = common::number(Some(words.next()?), 0) as usize;
+    let present = match words.next()?.as_str() {
+        "present" => true,
+        "absent" => false,
+        _ => return None,
+    };
+    let rounds = common::number(Some(words.next()?), 0);
+    (pairs > 0 && PAIRS.is_multiple_of(pairs)).then(|| forms::look_up(form, pairs, present, rounds))
+}
+
 fn times(length: usize) {
     let players = players();
     println!("{length} records, shortest of {TURNS} turns");
@@ -196,16 +212,18 @@ fn times(length: usize) {
 
 fn main() {
     let mut words = std::env::args().skip(1).peekable();
-    let done = match words.next_if(|word| word == "plays" || word == "count").as_deref() {
+    let done = match words.next_if(|word| ["plays", "count", "looks"].contains(&word.as_str())).as_deref() {
         Some("plays") => plays(&mut words),
-        Some(_) => count(&mut words),
+        Some("count") => count(&mut words),
+        Some(_) => looks(&mut words),
         None => {
             times(common::number(words.next(), RECORDS) as usize);
             Some(())
         }
     };
     if done.is_none() {
-        eprintln!("bench plays PLAYER SCHEDULE TIMES [RECORDS], or bench count CALL SCHEDULE [RECORDS]");
+        eprintln!("bench plays PLAYER SCHEDULE TIMES [RECORDS], bench count CALL SCHEDULE [RECORDS]");
+        eprintln!("or bench looks FORM PAIRS present|absent ROUNDS, with 1, 2, 4 .. 512 pairs");
         std::process::exit(2)
     }
 }
