@@ -485,6 +485,16 @@ allMeet-wrong : LookAllPromise (looking meetsAny) → ⊥
 unfolding rules
 allMeet-wrong h = apart (word 1) refl (h (view (twice .list) refl) sought blank refl)
 
+-- every call is refused
+allRefused-wrong : LookAllPromise (λ v keys out. record { answer = Length; copy = out }) → ⊥
+unfolding rules
+allRefused-wrong h = apart answer refl (h (view (seven .list) refl) sought blank refl)
+
+-- every call is done, and nothing is written
+allIdle-wrong : LookAllPromise (λ v keys out. record { answer = Done; copy = out }) → ⊥
+unfolding rules
+allIdle-wrong h = apart (word 0) refl (h (view (seven .list) refl) sought blank refl)
+
 -- an output of another length is written as far as it goes
 abbrev writesShort : List ℕ → List ℕ → List ℕ → Out
 writesShort v keys out =
