@@ -13,6 +13,7 @@
 // none|load|restore GUARDS, a letter for each guard, and then `to NUMBER` where one comes behind it that is not the next; snapshot NUMBER EPOCH;
 // lengths LEFT RIGHT LOG.
 // Numbers are as in tell::number. Any other line is only written.
+#![tactic(auto)]
 mod calls;
 mod records;
 mod slices;

@@ -1,4 +1,5 @@
 // The bytes of schedules and transcripts. A schedule is a mark, a version, and records of 20 bytes; a transcript is entries of 9.
+#![tactic(auto)]
 mod numbers;
 
 ghost use Rattle.std.specs.Prelude.{◌≡◌, ◌+◌, ◌≤◌, ◌<◌, length};

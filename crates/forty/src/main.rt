@@ -9,6 +9,7 @@
 // and their counts make 5130.
 //
 // A program has no exit status here: other words are told on standard error, and nothing is written.
+#![tactic(auto)]
 use libc::STDERR_FILENO;
 use read::{LOG_WORDS, State};
 use table::{PAIRS, WORDS};

@@ -1,4 +1,5 @@
 // Plays the schedule that its arguments name, and writes what came of it.
+#![tactic(auto)]
 use page::{SCHEDULE, TRANSCRIPT};
 
 // Plays what was read, unless it fills the buffer.

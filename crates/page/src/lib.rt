@@ -7,6 +7,7 @@
 // is what messages then call the file, a digit goes to descriptor 3: 0 well, 1 the file is refused, 2 anything else.
 //
 // The public functions answer no more than how much was read: what else they do is seen outside alone.
+#![tactic(auto)]
 mod files;
 mod gather;
 mod messages;

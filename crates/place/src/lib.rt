@@ -1,5 +1,6 @@
 // A release that changes a handle's own record in place. A reference to a record is outside what the borrow checker covers, so
 // `release` and `leave` are proved by walks of their code, by hand, and are thin: the work is done by value, beneath them.
+#![tactic(auto)]
 ghost use Rattle.std.specs.Prelude.{◌≡◌};
 ghost use Rattle.place.specs.Release.{release_rule};
 

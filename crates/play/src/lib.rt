@@ -1,4 +1,5 @@
 // The player: a schedule of calls in, the transcript of their answers out. The machine's memory is its own.
+#![tactic(auto)]
 mod schedule;
 mod turns;
 

@@ -1,6 +1,7 @@
 // The reader's side: the state, handles with their epochs and guards, and what a guard shows.
 // A call stands on the control part and one slot, by value, for whoever holds a state that is known to be whole; `machine` has the calls
 // that are given a whole state.
+#![tactic(auto)]
 pub mod admission;
 pub mod guards;
 pub mod handles;

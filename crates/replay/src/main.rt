@@ -1,6 +1,7 @@
 // Replays the known ends, and a sample of histories on which the crate left-right and a player agreed. Each schedule is played
 // anew, and its transcript held against the one recorded. A line says that all are as recorded, or what the first difference is.
 // Then it plays the schedules of standard input, which are refused.
+#![tactic(auto)]
 ghost use Rattle.std.specs.Prelude.{◌≤◌, length};
 
 use libc::STDIN_FILENO;

@@ -1,4 +1,6 @@
 // The count table on one copy: a lent slice of words.
+#![tactic(auto)]
+
 ghost use Rattle.std.specs.Prelude.{◌≡◌, true, false, ◌++◌, ◌+◌, ◌*◌, ◌≤◌, ◌<◌, length, take, drop, eqb};
 ghost use Rattle.table.specs.Answers.{number as number_rule};
 ghost use Rattle.table.specs.declared.Search.TheVariants.{Halve};
@@ -19,7 +21,7 @@ const TOP: u64 = 18446744073709551615;
 // How many pairs a walk passes in a turn.
 const TURN: usize = 4;
 
-#[derive(Drop)]
+#[derive(Clone, Copy)]
 pub enum Answer {
     Done,
     Length,
@@ -40,7 +42,7 @@ pub enum Answer {
 }
 
 // How a key is searched: by a walk, which finds its first pair in any words; or by halving, for whoever knows that the keys rise.
-#[derive(Drop)]
+#[derive(Clone, Copy)]
 pub enum Search {
     Walk,
     Halve,

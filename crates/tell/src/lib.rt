@@ -1,4 +1,5 @@
 // What the test programs share: lines of text, their words and numbers, words of a copy, and what is printed.
+#![tactic(auto)]
 ghost use Rattle.std.specs.Prelude.{◌≡◌, ◌+◌, ◌≤◌, length};
 
 use libc::STDOUT_FILENO;

@@ -1,5 +1,6 @@
 // The writer's side of the machine: append, publish, try, flush, take, and the steps that carry them out, on the control part and the
 // one slot that each looks at.
+#![tactic(auto)]
 pub mod begins;
 pub mod phases;
 mod slices;

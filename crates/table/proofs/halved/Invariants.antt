@@ -1,0 +1,17 @@
+-- What is left to search from i on gives the whole's place: each turn is one halving, and fuel beyond the pairs left does not matter.
+use Prim.Native.Nat.{ℕ, ◌+◌, ◌≤◌}
+use mathlib.Core.Path.{◌≡◌}
+use mathlib.Core.Bool.{Bool, false}
+use mathlib.Core.List.{List}
+use Rattle.table.specs.Seek.{halve}
+use Rattle.table.specs.Copy.{entries, key_at, passes, halved as halved_rule}
+use Rattle.table.proofs.halved.Given as goal
+
+abbrev pub test : ℕ → List ℕ → ℕ → Bool
+test key w i = passes false key (key_at w i)
+
+abbrev pub invariant-loop-n : goal.invariant-loop-n
+invariant-loop-n l = (l.i + l.n ≤ entries l.w) × (halved_rule l.key l.w ≡ halve (test l.key l.w) l.n l.i l.n)
+
+abbrev pub decreases-loop-n : goal.decreases-loop-n
+decreases-loop-n l = l.n

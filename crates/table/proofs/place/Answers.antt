@@ -1,0 +1,18 @@
+-- A walk seeks the place anew; halving has ended at it.
+use mathlib.Core.Path.{sym, ap, ◌∙◌}
+use Rattle.table.specs.declared.Search.{Search}
+use Rattle.table.specs.Copy.{find_by, place_by}
+use Rattle.table.proofs.place.Goals as goal
+
+pub returns-in-Walk : goal.returns-in-Walk
+returns-in-Walk c =
+    let a = c.args in
+    let f = c.first.ensures in
+    (f.0 ∙ sym (ap (λ (how : Search). place_by how a.key a.w.now) c.in-Walk.is), f.1)
+
+pub returns-in-Halve : goal.returns-in-Halve
+returns-in-Halve c =
+    let a = c.args in
+    let p = c.requires in
+    let e = c.in-Halve.is in
+    (p.1 ∙ ap (λ (how : Search). find_by how a.key a.w.now) e ∙ sym (ap (λ (how : Search). place_by how a.key a.w.now) e), p.2)

@@ -1,0 +1,25 @@
+-- Before a turn at i the words of the first i keys are told, and those of the keys from i on are left.
+use mathlib.Core.Path.{◌∙◌}
+use native.Mathlib.Omega.{arith}
+use borrow.Author.Rules.{rules}
+use Rattle.table.specs.Many.{filled}
+use Rattle.table.proofs.Many.{told_length, told-next, told-end}
+use Rattle.table.proofs.tell_all.Goals as goal
+
+pub loop-i-preserved : goal.loop-i-preserved
+loop-i-preserved c =
+    let at = c in
+    let a = at.args in
+    let i = at.loop-i.i in
+    let w = filled a.v.now in
+    rw c.tell_one.ensures (
+      search rules,
+      told_length i a.keys.now w at.loop-i.out (omega arith) (omega arith) ∙ at.loop-i.invariant.1,
+      told-next i a.keys.now w at.loop-i.out (omega arith) (omega arith) at.loop-i.invariant.2,
+    )
+
+pub returns : goal.returns
+returns c =
+    let at = c in
+    let a = at.args in
+    told-end at.loop-i.i a.keys.now (filled a.v.now) at.loop-i.out (omega arith) (omega arith) at.loop-i.invariant.2
