@@ -24,28 +24,24 @@ absent c =
 
 pub returns-then-has_key : goal.returns-then-has_key
 returns-then-has_key c =
-    let t = c in
-    let a = t.args in
-    let i = t.find-i.ensures.0 in
+    let a = c.args in
+    let i = c.find-i.ensures.0 in
     rw (c.grown.ensures, i)
-    (sym (added-there a.how a.key a.amount a.w.now (subst (λ (k : ℕ). has_key a.key a.w.now k ≡ true) i (sym t.has_key.ensures ∙ t.if-has_key.true))))
+    (sym (added-there a.how a.key a.amount a.w.now (subst (λ (k : ℕ). has_key a.key a.w.now k ≡ true) i (sym c.has_key.ensures ∙ c.if-has_key.true))))
 
 pub returns-then-w-ge-MOST : goal.returns-then-w-ge-MOST
 returns-then-w-ge-MOST c =
-    let t = c in
-    let a = t.args in
+    let a = c.args in
     rw c.grown-then-w-ge-MOST.ensures
-    (sym (added_absent a.how a.key a.amount a.w.now (absent (goal.at.returns-then-w-ge-MOST c).Else-has_key) ∙ placed_full a.how a.key a.amount a.w.now t.if-w-ge-MOST.true))
+    (sym (added_absent a.how a.key a.amount a.w.now (absent (goal.at.returns-then-w-ge-MOST c).Else-has_key) ∙ placed_full a.how a.key a.amount a.w.now c.if-w-ge-MOST.true))
 
 pub returns : goal.returns
 returns c =
-    let j = c in
-    let t = j in
-    let a = t.args in
+    let a = c.args in
     rw c.open_gap.ensures
-    (inserted-part j.place-j.result a.key a.amount a.w.now
-    ∙ ap (λ (k : ℕ). inserted k a.key a.amount a.w.now) j.place-j.ensures.0
-    ∙ sym (added_absent a.how a.key a.amount a.w.now (absent (goal.at.returns c).Else-has_key) ∙ placed_room a.how a.key a.amount a.w.now t.if-w-ge-MOST.false))
+    (inserted-part c.place-j.result a.key a.amount a.w.now
+    ∙ ap (λ (k : ℕ). inserted k a.key a.amount a.w.now) c.place-j.ensures.0
+    ∙ sym (added_absent a.how a.key a.amount a.w.now (absent (goal.at.returns c).Else-has_key) ∙ placed_room a.how a.key a.amount a.w.now c.if-w-ge-MOST.false))
 
 pub overflow_mul-at : goal.overflow_mul-at
 overflow_mul-at c = omega (arith, used (goal.at.overflow_mul-at c).Then-has_key)

@@ -18,13 +18,12 @@ used c =
 
 pub returns-then-has_key : goal.returns-then-has_key
 returns-then-has_key c =
-    let t = c in
-    let a = t.args in
-    let i = t.find-i in
+    let a = c.args in
+    let i = c.find-i in
     rw c.close_gap.ensures
-    (removed-part i.result a.w.now t.requires (used (goal.at.returns-then-has_key c).Then-has_key)
+    (removed-part i.result a.w.now c.requires (used (goal.at.returns-then-has_key c).Then-has_key)
     ∙ ap (λ (k : ℕ). removed k a.w.now) i.ensures.0
-    ∙ sym (dropped_there a.how a.key a.w.now (subst (λ (k : ℕ). has_key a.key a.w.now k ≡ true) i.ensures.0 (sym t.has_key.ensures ∙ t.if-has_key.true))))
+    ∙ sym (dropped_there a.how a.key a.w.now (subst (λ (k : ℕ). has_key a.key a.w.now k ≡ true) i.ensures.0 (sym c.has_key.ensures ∙ c.if-has_key.true))))
 
 pub returns-else-has_key : goal.returns-else-has_key
 returns-else-has_key c =

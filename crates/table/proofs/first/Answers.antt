@@ -16,18 +16,15 @@ loop-i-init c = (c.turns-i.ensures.1, refl, c.turns-i.ensures.0)
 
 pub returns-then-passes : goal.returns-then-passes
 returns-then-passes c =
-    let at = c in
-    let a = at.args in
-    (sym (at.loop-i.invariant.2 ∙ seek_here (test a.exact a.key a.w.now) at.loop-i.i (entries a.w.now) (search rules) (sym c.passes.ensures ∙ c.if-passes.true)), search rules)
+    let a = c.args in
+    (sym (c.loop-i.invariant.2 ∙ seek_here (test a.exact a.key a.w.now) c.loop-i.i (entries a.w.now) (search rules) (sym c.passes.ensures ∙ c.if-passes.true)), search rules)
 
 pub loop-i-preserved : goal.loop-i-preserved
 loop-i-preserved c =
-    let at = c in
-    let a = at.args in
-    (search rules, refl, at.loop-i.invariant.2 ∙ seek_next (test a.exact a.key a.w.now) at.loop-i.i (entries a.w.now) (search rules) (sym c.passes.ensures ∙ c.if-passes.false))
+    let a = c.args in
+    (search rules, refl, c.loop-i.invariant.2 ∙ seek_next (test a.exact a.key a.w.now) c.loop-i.i (entries a.w.now) (search rules) (sym c.passes.ensures ∙ c.if-passes.false))
 
 pub returns : goal.returns
 returns c =
-    let at = c in
-    let a = at.args in
-    (sym (at.loop-i.invariant.2 ∙ seek_end (test a.exact a.key a.w.now) at.loop-i.i (entries a.w.now) (search rules)), search rules)
+    let a = c.args in
+    (sym (c.loop-i.invariant.2 ∙ seek_end (test a.exact a.key a.w.now) c.loop-i.i (entries a.w.now) (search rules)), search rules)

@@ -17,24 +17,21 @@ loop-n-init c = (search rules, refl)
 
 pub loop-n-preserved-then-key-w : goal.loop-n-preserved-then-key-w
 loop-n-preserved-then-key-w c =
-    let b = c in
-    let a = b.args in (
+    let a = c.args in (
       search rules,
-      b.loop-n.invariant.1
-          ∙ turn_left (test a.key a.w.now) b.loop-n.i b.loop-n.n (search rules) (le-leb _ _ c.if-key-w.true),
+      c.loop-n.invariant.1
+          ∙ turn_left (test a.key a.w.now) c.loop-n.i c.loop-n.n (search rules) (le-leb _ _ c.if-key-w.true),
     )
 
 pub loop-n-preserved : goal.loop-n-preserved
 loop-n-preserved c =
-    let b = c in
-    let a = b.args in (
+    let a = c.args in (
       search rules,
-      b.loop-n.invariant.1
-          ∙ turn_right (test a.key a.w.now) b.loop-n.i b.loop-n.n (search rules) (lt-leb _ _ c.if-key-w.false),
+      c.loop-n.invariant.1
+          ∙ turn_right (test a.key a.w.now) c.loop-n.i c.loop-n.n (search rules) (lt-leb _ _ c.if-key-w.false),
     )
 
 pub returns : goal.returns
 returns c =
-    let b = c in
-    let a = b.args in
-    (sym (b.loop-n.invariant.1 ∙ halve_done (test a.key a.w.now) b.loop-n.n b.loop-n.i b.loop-n.n (search rules)), search rules)
+    let a = c.args in
+    (sym (c.loop-n.invariant.1 ∙ halve_done (test a.key a.w.now) c.loop-n.n c.loop-n.i c.loop-n.n (search rules)), search rules)

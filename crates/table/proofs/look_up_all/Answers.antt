@@ -36,11 +36,9 @@ way-requires c = view_holds _ (view (goal.at.way-requires c).Else-not-is_view) c
 
 pub tell_all-requires : goal.tell_all-requires
 tell_all-requires c =
-    let e = c in
-    (view_ready _ (view (goal.at.tell_all-requires c).Else-not-is_view) _ e.if-v-gt-MOST.false c.way.ensures, eqb-true _ _ (room (goal.at.tell_all-requires c).Else-not-is_twice))
+    (view_ready _ (view (goal.at.tell_all-requires c).Else-not-is_view) _ c.if-v-gt-MOST.false c.way.ensures, eqb-true _ _ (room (goal.at.tell_all-requires c).Else-not-is_twice))
 
 pub returns : goal.returns
 returns c =
-    let e = c in
     rw c.tell_all.ensures
-    (sym (all_told _ _ _ (view (goal.at.returns c).Else-not-is_view) (room (goal.at.returns c).Else-not-is_twice) e.if-v-gt-MOST.false))
+    (sym (all_told _ _ _ (view (goal.at.returns c).Else-not-is_view) (room (goal.at.returns c).Else-not-is_twice) c.if-v-gt-MOST.false))

@@ -30,19 +30,17 @@ returns-then-not-is_fit c = sym (look_unfit _ _ _ (sym c.is_fit.ensures ∙ c.if
 
 pub returns-then-has_key : goal.returns-then-has_key
 returns-then-has_key c =
-    let t = c in
-    let a = t.args in
-    let i = t.find-i in
+    let a = c.args in
+    let i = c.find-i in
     let e : 2 * i.result + 2 + 2 - (2 * i.result + 2) ≡ 2 = omega arith in
     rw (e, i.ensures.0)
-    (sym (look-there a.how a.key a.w.now (fits_here (goal.at.returns-then-has_key c).Else-not-is_fit) (subst (λ (k : ℕ). has_key a.key a.w.now k ≡ true) i.ensures.0 (sym t.has_key.ensures ∙ t.if-has_key.true))))
+    (sym (look-there a.how a.key a.w.now (fits_here (goal.at.returns-then-has_key c).Else-not-is_fit) (subst (λ (k : ℕ). has_key a.key a.w.now k ≡ true) i.ensures.0 (sym c.has_key.ensures ∙ c.if-has_key.true))))
 
 pub returns : goal.returns
 returns c =
-    let t = c in
-    let a = t.args in
-    let i = t.find-i in
-    sym (look_absent a.how a.key a.w.now (fits_here (goal.at.returns c).Else-not-is_fit) (subst (λ (k : ℕ). has_key a.key a.w.now k ≡ false) i.ensures.0 (sym t.has_key.ensures ∙ t.if-has_key.false)))
+    let a = c.args in
+    let i = c.find-i in
+    sym (look_absent a.how a.key a.w.now (fits_here (goal.at.returns c).Else-not-is_fit) (subst (λ (k : ℕ). has_key a.key a.w.now k ≡ false) i.ensures.0 (sym c.has_key.ensures ∙ c.if-has_key.false)))
 
 pub find-i-requires : goal.find-i-requires
 find-i-requires c = holds_here (goal.at.find-i-requires c).Else-not-is_fit

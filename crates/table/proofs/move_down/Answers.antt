@@ -8,11 +8,10 @@ use Rattle.table.proofs.move_down.Goals as goal
 
 pub loop-j-preserved : goal.loop-j-preserved
 loop-j-preserved c =
-    let at = c in
-    let p = at.args.part.now in (
+    let p = c.args.part.now in (
       search rules,
       simp length-set (search rules),
-      rw at.loop-j.invariant.2 (over-down at.loop-j.j at.args.g p (search rules)),
+      rw c.loop-j.invariant.2 (over-down c.loop-j.j c.args.g p (search rules)),
     )
 
 pub returns : goal.returns

@@ -12,13 +12,12 @@ loop-j-init c = (search rules, search rules, up_none c.args.m c.args.part.now)
 
 pub loop-j-preserved : goal.loop-j-preserved
 loop-j-preserved c =
-    let at = c in
-    let j = at.loop-j.j in
-    let m = at.args.m in
-    let p = at.args.part.now in (
+    let j = c.loop-j.j in
+    let m = c.args.m in
+    let p = c.args.part.now in (
       search rules,
       simp length-set (search rules),
-      rw (at.loop-j.invariant.2, get_d_up j (j - 1) m p (search rules) (search rules)) (up_next j m p (search rules) (search rules) (search rules)),
+      rw (c.loop-j.invariant.2, get_d_up j (j - 1) m p (search rules) (search rules)) (up_next j m p (search rules) (search rules) (search rules)),
     )
 
 pub bounds-part-1 : goal.bounds-part-1

@@ -8,18 +8,16 @@ use Rattle.table.proofs.tell_all.Goals as goal
 
 pub loop-i-preserved : goal.loop-i-preserved
 loop-i-preserved c =
-    let at = c in
-    let a = at.args in
-    let i = at.loop-i.i in
+    let a = c.args in
+    let i = c.loop-i.i in
     let w = filled a.v.now in
     rw c.tell_one.ensures (
       search rules,
-      told_length i a.keys.now w at.loop-i.out (omega arith) (omega arith) ∙ at.loop-i.invariant.1,
-      told-next i a.keys.now w at.loop-i.out (omega arith) (omega arith) at.loop-i.invariant.2,
+      told_length i a.keys.now w c.loop-i.out (omega arith) (omega arith) ∙ c.loop-i.invariant.1,
+      told-next i a.keys.now w c.loop-i.out (omega arith) (omega arith) c.loop-i.invariant.2,
     )
 
 pub returns : goal.returns
 returns c =
-    let at = c in
-    let a = at.args in
-    told-end at.loop-i.i a.keys.now (filled a.v.now) at.loop-i.out (omega arith) (omega arith) at.loop-i.invariant.2
+    let a = c.args in
+    told-end c.loop-i.i a.keys.now (filled a.v.now) c.loop-i.out (omega arith) (omega arith) c.loop-i.invariant.2

@@ -18,11 +18,10 @@ returns-then-k-lt-TURN c = (c.loop-t.invariant.2 ∙ c.failing-k.ensures.0, sear
 
 pub loop-t-preserved : goal.loop-t-preserved
 loop-t-preserved c =
-    let at = c in
-    let a = at.args in
+    let a = c.args in
     let f = c.failing-k in
-    let e : 4 * at.loop-t.t + f.result ≡ 4 * (at.loop-t.t + 1) = omega arith in
-    (search rules, refl, at.loop-t.invariant.2 ∙ f.ensures.0 ∙ ap (first_from a.exact a.key a.w.now) e)
+    let e : 4 * c.loop-t.t + f.result ≡ 4 * (c.loop-t.t + 1) = omega arith in
+    (search rules, refl, c.loop-t.invariant.2 ∙ f.ensures.0 ∙ ap (first_from a.exact a.key a.w.now) e)
 
 pub returns : goal.returns
 returns c = (c.loop-t.invariant.2, search rules)

@@ -14,8 +14,7 @@ returns-then-v-i c h = let z : ◌≡◌ {A = ℕ} 0 1 = cc in absurd (omega ari
 
 pub loop-i-preserved : goal.loop-i-preserved
 loop-i-preserved c =
-    let at = c in
-    (search rules, refl, rising_next at.loop-i.i at.args.v.now c.if-v-i.false at.loop-i.invariant.2)
+    (search rules, refl, rising_next c.loop-i.i c.args.v.now c.if-v-i.false c.loop-i.invariant.2)
 
 pub returns : goal.returns
 returns c h i j l b = c.loop-i.invariant.2 i j l (omega arith)

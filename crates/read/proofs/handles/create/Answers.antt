@@ -1,0 +1,18 @@
+-- By the verdict: where it admits, the slot that is first is there.
+use Rattle.std.proofs.Common.{sym, ◌∙◌}
+use Rattle.read.proofs.Cases.{create_refused, create-made, create_room}
+use Rattle.read.proofs.handles.create.Goals as goal
+
+pub behind-requires : goal.behind-requires
+behind-requires c =
+    create_room c.args.c (sym c.create_verdict-v.ensures ∙ c.in-Admitted.is)
+
+pub returns-in-Refused : goal.returns-in-Refused
+returns-in-Refused c =
+    let a = c.args in
+    c.made_of.ensures ∙ sym (create_refused a.c a.s _ (sym c.create_verdict-v.ensures ∙ c.in-Refused.is))
+
+pub returns-in-Admitted : goal.returns-in-Admitted
+returns-in-Admitted c =
+    let a = c.args in
+    rw (c.behind.ensures, c.new_slot-t.ensures) (sym (create-made a.c a.s (sym c.create_verdict-v.ensures ∙ c.in-Admitted.is)))

@@ -1,0 +1,18 @@
+-- By the link.
+use Rattle.std.proofs.Common.{sym, ap, ◌∙◌, add-one, arith}
+use Rattle.read.specs.Machine.{slot_count, behind}
+use Rattle.read.proofs.order.behind.Goals as goal
+
+pub overflow_add-result : goal.overflow_add-result
+unfolding slot_count
+overflow_add-result c = omega arith
+
+pub returns-in-Fresh : goal.returns-in-Fresh
+returns-in-Fresh c =
+    let a = c.args in
+    add-one a.i ∙ sym (ap (behind a.i) c.in-Fresh.is)
+
+pub returns-in-To : goal.returns-in-To
+returns-in-To c =
+    let a = c.args in
+    sym (ap (behind a.i) c.in-To.is)
