@@ -11,7 +11,6 @@ use Rattle.read.specs.declared.State.{State}
 use Rattle.read.specs.declared.Verdict.{Verdict}
 use Rattle.read.specs.declared.Verdict.TheVariants.{Admitted, Refused}
 use Rattle.read.specs.Machine.{log_words, lawful_at, first_unlawful, sized, whole_control, orderly, glanced, judged}
-use Rattle.write.proofs.Count.{left}
 use Rattle.read.proofs.Verdicts.{refused_not}
 use Rattle.write.proofs.Control.{Whole, control_whole, whole_control_lem}
 use Rattle.write.proofs.Words.{Kept, Words}

@@ -8,7 +8,6 @@ use Rattle.table.specs.declared.Search.{Search}
 use Rattle.table.proofs.Booleans.{both}
 use Rattle.table.proofs.Split.{split}
 use Rattle.table.specs.declared.Answer.{Answer}
-use Rattle.table.specs.declared.Answer.TheVariants as answer
 use Rattle.read.specs.declared.Slot.{Slot}
 use Rattle.read.specs.declared.Phase.{Phase}
 use Rattle.read.specs.declared.Phase.TheVariants.{Begin, Poll, Null}

@@ -1,6 +1,6 @@
 -- Run: what it gives from a state in which some steps are made already. One law for each turn that the loop of a run can take: a step
 -- that is made, a poll of the slot scan that passes, the scan's end, a poll that stops the run, and the end of the call.
-use Rattle.std.proofs.Common.{◌≡◌, ℕ, zero, suc, ◌+◌, ◌-◌, ◌<◌, ◌≤◌, Bool, true, false, List, length, get_or, set, sym, refl, ap, ◌∙◌, subst, true≢false, arith, le-ltb, lt-ltb}
+use Rattle.std.proofs.Common.{◌≡◌, ℕ, zero, suc, ◌+◌, ◌-◌, ◌<◌, ◌≤◌, Bool, true, false, List, get_or, set, sym, refl, ap, ◌∙◌, subst, true≢false, arith, le-ltb, lt-ltb}
 use lib.Seq.{set-get_or}
 use Rattle.table.specs.Answers.{number}
 use Rattle.table.specs.declared.Answer.{Answer}

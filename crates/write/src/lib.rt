@@ -1,6 +1,7 @@
 // The writer's side of the machine: append, publish, try, flush, take, and the steps that carry them out, on the control part and the
 // one slot that each looks at.
 #![tactic(auto)]
+
 pub mod begins;
 pub mod phases;
 mod slices;
@@ -13,7 +14,7 @@ use table::Answer;
 pub const BATCH_ROOM: usize = 64;
 
 // What a step of the writer, or a call that is made at once, makes of the control part and of the one slot that it looks at.
-#[derive(Drop)]
+#[derive(Clone, Copy)]
 pub struct Moved {
     pub answer: Answer,
     pub value: u64,
@@ -23,7 +24,7 @@ pub struct Moved {
 }
 
 // A call that begins a publish or a take.
-#[derive(Drop)]
+#[derive(Clone, Copy)]
 pub enum Opening {
     Publish,
     Try,

@@ -1,0 +1,5 @@
+-- The lock that fits the phase.
+use Rattle.write.proofs.phases.standing.Goals as goal
+
+pub returns : goal.returns
+returns c = simp c.locks-lock.ensures

@@ -1,0 +1,6 @@
+-- Three words, one after the other.
+use Rattle.write.proofs.Lent.{logged-put}
+use Rattle.write.proofs.slices.enlog.Goals as goal
+
+pub returns : goal.returns
+returns c = search logged-put
