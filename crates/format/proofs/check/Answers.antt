@@ -3,8 +3,6 @@ use Prim.Native.Nat.{◌≤◌}
 use mathlib.Core.Path.{◌≡◌, sym, ap, ◌∙◌}
 use mathlib.Core.Bool.{true}
 use native.Mathlib.Omega.{arith}
-use borrow.Author.Rules.{rules}
-use borrow.Author.Tests.{not-true, not-false}
 use lib.ListN.{length}
 use Rattle.format.specs.Schedule.{head_bytes, marked, flaw}
 use Rattle.format.proofs.Records.{marked_long, flaw_unmarked, flaw_version, flaw_torn, flaw_whole}

@@ -2,8 +2,6 @@
 use Prim.Native.Nat.{◌+◌}
 use mathlib.Core.Path.{◌≡◌, ◌∙◌}
 use lib.ListN.{get_or}
-use native.Mathlib.Omega.{arith}
-use Rattle.table.proofs.Needs.{all11}
 use Rattle.format.proofs.Bytes.{number_one}
 use Rattle.format.proofs.fields_of.Goals as goal
 

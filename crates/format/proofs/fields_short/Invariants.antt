@@ -1,11 +1,8 @@
 -- Before a turn the bytes up to i are copied.
 use Prim.Native.Nat.{◌+◌, ◌-◌, ◌<◌}
-use mathlib.Core.Path.{sym, ◌∙◌}
-use native.Mathlib.Omega.{arith}
-use borrow.Author.Rules.{rules}
 use lib.ListN.{length}
 use Rattle.format.specs.Schedule.{record_bytes}
-use Rattle.format.proofs.Cut.{Copied, copied_none, copied_next, copied_fields}
+use Rattle.format.proofs.Cut.{Copied}
 use Rattle.format.proofs.fields_short.Given as goal
 
 abbrev pub invariant-loop-i : goal.invariant-loop-i

@@ -1,13 +1,8 @@
 -- Before a turn at j what is sought is what the rule still seeks from j on.
 use Prim.Native.Nat.{◌+◌, ◌-◌, ◌≤◌}
-use mathlib.Core.Path.{◌≡◌, sym, ap, ◌∙◌}
-use mathlib.Core.Bool.{not}
-use native.Mathlib.Omega.{arith}
-use borrow.Author.Tests.{eq-eqb, ne_eqb}
-use Rattle.table.proofs.Needs.{all2, all5}
+use mathlib.Core.Path.{◌≡◌}
 use lib.ListN.{length}
 use Rattle.table.specs.Seek.{seek}
-use Rattle.table.proofs.Seek.{seek_here, seek_next, seek_end}
 use Rattle.format.specs.Schedule.{start_of, other_at, first_other}
 use Rattle.format.proofs.first_other.Given as goal
 

@@ -2,8 +2,6 @@
 use mathlib.Core.Path.{◌≡◌, sym, ap, ◌∙◌}
 use mathlib.Core.Bool.{not}
 use native.Mathlib.Omega.{arith}
-use borrow.Author.Rules.{rules}
-use Rattle.table.proofs.Needs.{all3}
 use lib.Dec.{eqb}
 use Rattle.format.specs.Schedule.{start_of, members_at, first_other}
 use Rattle.format.proofs.Records.{bad_low, bad_high, bad_few, bad_rest}

@@ -1,6 +1,5 @@
 -- The tests of the mark, in the rule's order.
 use mathlib.Core.Path.{sym}
-use borrow.Author.Rules.{rules}
 use Rattle.format.proofs.Records.{unmarked_short, unmarked_first, unmarked_second, marked_third}
 use Rattle.format.proofs.marked.Goals as goal
 

@@ -1,6 +1,5 @@
 -- A batch has its amount, and another record none.
 use mathlib.Core.Path.{sym, ◌∙◌}
-use borrow.Author.Rules.{rules}
 use Rattle.format.proofs.Records.{members_batch, members_none}
 use Rattle.format.proofs.members.Goals as goal
 

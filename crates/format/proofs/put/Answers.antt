@@ -2,8 +2,6 @@
 use mathlib.Core.Path.{sym, ap, ◌∙◌}
 use native.Mathlib.Numerals.{add-one}
 use native.Mathlib.Omega.{arith}
-use borrow.Author.Rules.{rules}
-use Rattle.table.proofs.Needs.{all2}
 use lib.ListN.{length, length-set}
 use lib.Seq.{length-sets}
 use Rattle.format.proofs.Bytes.{put_none, put_stored}

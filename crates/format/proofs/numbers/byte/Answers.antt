@@ -1,7 +1,6 @@
 -- A byte is a number of one byte.
 use mathlib.Core.Path.{sym}
 use native.Mathlib.Omega.{arith}
-use borrow.Author.Rules.{rules}
 use Rattle.format.proofs.Bytes.{number_one}
 use Rattle.format.proofs.numbers.byte.Goals as goal
 

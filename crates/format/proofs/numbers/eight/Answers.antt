@@ -1,6 +1,4 @@
 -- Eight bytes, by the law of numbers that stand one behind the other.
-use native.Mathlib.Omega.{arith}
-use Rattle.table.proofs.Needs.{all5}
 use Rattle.format.proofs.Bytes.{number-joined}
 use Rattle.format.proofs.numbers.eight.Goals as goal
 

@@ -1,6 +1,5 @@
 -- Four bytes, by the law of numbers that stand one behind the other.
 use native.Mathlib.Omega.{arith}
-use Rattle.table.proofs.Needs.{all5}
 use Rattle.format.proofs.Bytes.{number-joined}
 use Rattle.format.proofs.numbers.four.Goals as goal
 

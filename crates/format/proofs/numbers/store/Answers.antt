@@ -1,13 +1,8 @@
 -- After i turns the bytes still to be stored are those of what is left of the number.
-use Prim.Native.Nat.{◌+◌, ◌-◌, ◌≤◌, ◌<◌}
-use mathlib.Core.Path.{◌≡◌, refl, sym, ◌∙◌}
+use Prim.Native.Nat.{◌+◌, ◌<◌}
+use mathlib.Core.Path.{refl, sym, ◌∙◌}
 use native.Mathlib.Nat.{add-zero}
-use native.Mathlib.Omega.{arith}
 use borrow.Author.Rules.{rules}
-use Rattle.table.proofs.Needs.{all5}
-use lib.ListN.{length}
-use lib.Seq.{sets}
-use Rattle.format.specs.Schedule.{bytes_of}
 use Rattle.format.proofs.Bytes.{store-next, store_none}
 use Rattle.format.proofs.numbers.store.Goals as goal
 
