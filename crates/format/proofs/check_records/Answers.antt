@@ -25,13 +25,15 @@ passed s {inside} {at} {m} {k} {to} b l fine e p q =
     }
 
 -- past a batch
-batch : (c : After-members-m) → Before c.args.s.now (c.loop-at.inside + c.members-m.result) (c.loop-at.at + record_bytes * c.members-m.result + record_bytes)
+batch : (c : After-members-m) →
+    Before c.args.s.now (c.loop-at.inside + c.members-m.result) (c.loop-at.at + record_bytes * c.members-m.result + record_bytes)
 batch c =
     let v = c.loop-at.invariant in
     passed _ v.3 (omega (arith, v.1, v.2, v.3.begins)) (sym c.is_bad.ensures ∙ c.if-is_bad.false) c.members-m.ensures refl refl
 
 -- past a record, whichever way was taken
-next : (c : Joined-call-lt1) → (c.loop-at.at ≤ c.if-call-lt1.at) × Before c.args.s.now c.if-call-lt1.inside (c.if-call-lt1.at + record_bytes)
+next : (c : Joined-call-lt1) →
+    (c.loop-at.at ≤ c.if-call-lt1.at) × Before c.args.s.now c.if-call-lt1.inside (c.if-call-lt1.at + record_bytes)
 next c =
     let s = c.args.s.now in
     let v = c.loop-at.invariant in
@@ -44,7 +46,9 @@ next c =
           let h : get_or s at 0 < 15 = w.if-call-ge-BATCH.false in
           let low : 1 ≤ get_or s (start_of (place_of at)) 0 = subst (λ (k : ℕ). 1 ≤ get_or s k 0) v.3.begins w.if-call-lt1.false in
           let high : get_or s (start_of (place_of at)) 0 < 15 = subst (λ (k : ℕ). get_or s k 0 < 15) v.3.begins h in
-          (omega (arith, w.at-is), passed s v.3 l (lone_good s (place_of at) low high) (sym (members_none s at (λ f. omega (arith, f, h)))) (omega (arith, w.inside-is)) (omega (arith, w.at-is)))
+          let none : 0 ≡ members_at s at = sym (members_none s at (λ f. omega (arith, f, h))) in
+          let to : c.if-call-lt1.at ≡ at + record_bytes * 0 = omega (arith, w.at-is) in
+          (omega (arith, w.at-is), passed s v.3 l (lone_good s (place_of at) low high) none (omega (arith, w.inside-is)) to)
     ]
 
 pub loop-at-init : goal.loop-at-init
