@@ -1,5 +1,6 @@
 // The bytes of schedules and transcripts. A schedule is a mark, a version, and records of 20 bytes; a transcript is entries of 9.
 #![tactic(auto)]
+
 mod numbers;
 
 ghost use Rattle.std.specs.Prelude.{◌≡◌, ◌+◌, ◌≤◌, ◌<◌, length};
@@ -29,7 +30,7 @@ pub const BATCH: u8 = 15;
 
 // What is wrong with a schedule, and the record at which it was found; 0 where nothing is. With it how many entries the transcript
 // will have; 0 where something is wrong.
-#[derive(Drop)]
+#[derive(Clone, Copy)]
 pub struct Flaw {
     pub answer: u64,
     pub place: usize,
@@ -37,7 +38,7 @@ pub struct Flaw {
 }
 
 // A record's fields.
-#[derive(Drop)]
+#[derive(Clone, Copy)]
 pub struct Fields {
     pub call: u64,
     pub slot: usize,
