@@ -1,6 +1,6 @@
 -- Each public contract determines what comes back and the record that is left: any two results that it allows are equal.
--- `Post` is the contract itself, as the check reads it from the source. A reference to a record has no such reading, so what the
--- contract of `release` says is written out here, and `release-says` shows that it is that contract.
+-- `Post` is the contract itself, as the check reads it from the source. What the contract of `release` says of the record behind its
+-- reference is written out here, and `release-says` shows that it is that contract.
 use mathlib.Core.Path.{◌≡◌, refl, sym, ap, ◌∙◌}
 use Prim.Native.Nat.{ℕ}
 use seplogic.Ra.Ura.{Ura}
