@@ -1,6 +1,6 @@
 -- By whether the lengths are right; what is lent is zeroed slice by slice.
 use mathlib.Core.Path.{sym, ◌∙◌}
-use Rattle.read.proofs.Cases.{start_refused, start-made}
+use Rattle.read.proofs.Cases.{start_refused, start_made}
 use Rattle.machine.proofs.start.Goals as goal
 
 pub returns-then-not-sized : goal.returns-then-not-sized
@@ -11,4 +11,4 @@ returns-then-not-sized c =
 pub returns : goal.returns
 returns c =
     let a = c.args in
-    rw (c.zero.ensures, c.zero-2.ensures, c.zero-3.ensures, c.fresh_state-st.ensures) (sym (start-made a.left.now a.right.now a.log.now (sym c.sized.ensures ∙ c.if-not-sized.false)))
+    rw (c.zero.ensures, c.zero-2.ensures, c.zero-3.ensures, c.fresh_state-st.ensures) (sym (start_made a.left.now a.right.now a.log.now (sym c.sized.ensures ∙ c.if-not-sized.false)))

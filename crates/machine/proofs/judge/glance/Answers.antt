@@ -4,7 +4,7 @@ use mathlib.Core.Bool.{◌&&◌}
 use native.Mathlib.Omega.{arith}
 use lib.Dec.{leb}
 use Rattle.table.specs.Copy.{pairs, entries}
-use Rattle.read.proofs.Cases.{sized_lengths, glanced_length, glanced-broken, glanced-whole}
+use Rattle.read.proofs.Cases.{sized_lengths, glanced_length, glanced_broken, glanced_whole}
 use Rattle.machine.proofs.judge.glance.Goals as goal
 
 pub returns-then-not-sized : goal.returns-then-not-sized
@@ -25,9 +25,9 @@ bounds-right-0 c =
 pub returns-then-both : goal.returns-then-both
 returns-then-both c =
     let a = c.args in
-    sym (glanced-whole a.c a.left.now a.right.now a.log.now (sym c.sized.ensures ∙ c.if-not-sized.false) (sym (c.both-2.ensures ∙ ap (◌&&◌ (leb (entries a.left.now) pairs)) (c.both.ensures ∙ ap (◌&&◌ (leb (entries a.right.now) pairs)) c.whole_control.ensures)) ∙ c.if-both.true))
+    sym (glanced_whole a.c a.left.now a.right.now a.log.now (sym c.sized.ensures ∙ c.if-not-sized.false) (sym (c.both-2.ensures ∙ ap (◌&&◌ (leb (entries a.left.now) pairs)) (c.both.ensures ∙ ap (◌&&◌ (leb (entries a.right.now) pairs)) c.whole_control.ensures)) ∙ c.if-both.true))
 
 pub returns : goal.returns
 returns c =
     let a = c.args in
-    sym (glanced-broken a.c a.left.now a.right.now a.log.now (sym c.sized.ensures ∙ c.if-not-sized.false) (sym (c.both-2.ensures ∙ ap (◌&&◌ (leb (entries a.left.now) pairs)) (c.both.ensures ∙ ap (◌&&◌ (leb (entries a.right.now) pairs)) c.whole_control.ensures)) ∙ c.if-both.false))
+    sym (glanced_broken a.c a.left.now a.right.now a.log.now (sym c.sized.ensures ∙ c.if-not-sized.false) (sym (c.both-2.ensures ∙ ap (◌&&◌ (leb (entries a.left.now) pairs)) (c.both.ensures ∙ ap (◌&&◌ (leb (entries a.right.now) pairs)) c.whole_control.ensures)) ∙ c.if-both.false))

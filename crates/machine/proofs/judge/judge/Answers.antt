@@ -4,7 +4,7 @@ use mathlib.Core.Bool.{Bool, ◌&&◌}
 use Prim.Native.Nat.{ℕ}
 use lib.Dec.{leb}
 use borrow.Author.Rules.{rules}
-use Rattle.read.proofs.Cases.{glanced_room, judged_refused, judged-broken, judged_whole}
+use Rattle.read.proofs.Cases.{glanced_room, judged_refused, judged_broken, judged_whole}
 use Rattle.machine.proofs.judge.judge.Goals as goal
 
 -- what is tested behind the glance
@@ -33,5 +33,5 @@ returns-then-both c =
 pub returns-else-both : goal.returns-else-both
 returns-else-both c =
     let a = c.args in
-    sym (judged-broken a.st a.left.now a.right.now a.log.now (sym c.glance-v.ensures ∙ c.in-Admitted.is)
+    sym (judged_broken a.st a.left.now a.right.now a.log.now (sym c.glance-v.ensures ∙ c.in-Admitted.is)
     (tested a.st.control.length c.both.ensures c.first_unlawful.ensures c.orderly.ensures ∙ c.if-both.false))
