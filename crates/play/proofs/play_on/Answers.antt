@@ -2,11 +2,11 @@
 -- on its way (`Going`). Each way through the body is one law.
 use Prim.Native.Nat.{ℕ, suc, ◌+◌, ◌-◌, ◌*◌, ◌≤◌, ◌<◌, min}
 use mathlib.Core.Path.{◌≡◌, sym, ap, subst, ◌∙◌}
+use mathlib.Core.Bool.{Bool}
+use mathlib.Core.List.{List}
 use native.Mathlib.Omega.{arith}
 use borrow.Author.Rules.{rules}
 use lib.ListN.{length, get_or, set}
-use mathlib.Core.Bool.{Bool}
-use mathlib.Core.List.{List}
 use Rattle.read.specs.declared.Control.{Control}
 use Rattle.read.specs.declared.Reply.{Reply}
 use Rattle.read.specs.declared.Slot.{Slot}

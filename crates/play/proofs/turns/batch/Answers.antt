@@ -1,11 +1,12 @@
 -- Of more than there is room for, so many as are refused alike.
-use mathlib.Core.Path.{sym, ◌∙◌}
-use mathlib.Core.Path.{◌≡◌}
+use Prim.Native.Nat.{suc, ◌*◌}
+use mathlib.Core.Path.{◌≡◌, sym, ◌∙◌}
 use lib.ListN.{length}
 use lib.Seq.{length-take-le}
 use native.Mathlib.Omega.{arith}
 use borrow.Author.Rules.{rules}
 use Rattle.table.specs.declared.Search.TheVariants.{Halve}
+use Rattle.write.specs.Begins.{batch_room}
 use Rattle.write.proofs.Rising.{append_rising}
 use Rattle.play.proofs.Gathered.{batch-taken}
 use Rattle.play.proofs.turns.batch.Goals as goal
@@ -14,10 +15,10 @@ pub gather-requires : goal.gather-requires
 gather-requires c = (c.requires.0, omega (arith, c.fewer-k.ensures), omega (arith, c.fewer-k.ensures))
 
 pub slice_bounds-ops-end : goal.slice_bounds-ops-end
-slice_bounds-ops-end c = let h : length c.gather.new.ops ≡ 195 = search rules in omega (arith, c.fewer-k.ensures, h)
+slice_bounds-ops-end c = let h : length c.gather.new.ops ≡ 3 * suc batch_room = search rules in omega (arith, c.fewer-k.ensures, h)
 
 pub slice_bounds-extend_by-end : goal.slice_bounds-extend_by-end
-slice_bounds-extend_by-end c = let h : length c.gather.new.ops ≡ 195 = search rules in sym (length-take-le _ _ (omega (arith, c.fewer-k.ensures, h)))
+slice_bounds-extend_by-end c = let h : length c.gather.new.ops ≡ 3 * suc batch_room = search rules in sym (length-take-le _ _ (omega (arith, c.fewer-k.ensures, h)))
 
 pub returns : goal.returns
 returns c =
