@@ -1,5 +1,6 @@
 // The player: a schedule of calls in, the transcript of their answers out. The machine's memory is its own.
 #![tactic(auto)]
+
 mod schedule;
 mod turns;
 
@@ -18,7 +19,7 @@ use write::steps;
 
 // What came of a schedule: 0, or what refuses it, and how many bytes were written.
 #[repr(C)]
-#[derive(Drop)]
+#[derive(Clone, Copy)]
 pub struct Played {
     pub answer: u64,
     pub written: usize,
@@ -28,7 +29,7 @@ pub struct Played {
 const CROWDED: u64 = 25;
 
 // Where the records of a part led: the machine's state, and how many bytes were read and written.
-#[derive(Drop)]
+#[derive(Clone, Copy)]
 pub(crate) struct Reached {
     pub state: State,
     pub used: usize,
@@ -105,8 +106,7 @@ fn play_on(
 }
 
 // Plays a schedule. What refuses it is found before anything is written.
-#[unsafe(no_mangle)]
-pub extern "C" fn lrt_play(schedule: &[u8], out: &mut [u8]) -> Played
+pub fn lrt_play(schedule: &[u8], out: &mut [u8]) -> Played
     ensures { output result out.new ≡ play_rule schedule.now out.old }
 {
     let flaw = format::check(schedule);
