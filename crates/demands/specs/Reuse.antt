@@ -1,5 +1,5 @@
 -- Which slot a create hands out, after any history.
-use Rattle.std.specs.Prelude.{ℕ, ◌<◌, ◌≡◌, true, false, List}
+use Rattle.std.specs.Prelude.{◌<◌, ◌≡◌, true, false, List}
 use Rattle.read.specs.Machine.{slot_count}
 use Rattle.write.specs.Call.{Call, Create}
 use Rattle.write.specs.World.{Machine, reply, answer_of, value_of}

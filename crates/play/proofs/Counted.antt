@@ -9,7 +9,7 @@ use lib.ListN.{length}
 use Rattle.table.proofs.Split.{split, under}
 use Rattle.format.specs.Schedule.{record_bytes, count, start_of, members_at, units_from, entries_in}
 use Rattle.format.proofs.Records.{members_batch, members_none}
-use Rattle.format.proofs.Units.{units-next}
+use Rattle.format.proofs.Units.{units_next}
 use Rattle.play.specs.Refusals.{call_at, amount_at, Entries, none, single, batch}
 
 module _ (s : List ℕ) where
@@ -27,7 +27,7 @@ module _ (s : List ℕ) where
       let at : start_of i + record_bytes * suc m ≡ start_of j = omega (arith, p) in
       let left : n - m ≡ count s - j = omega (arith, p) in
       ap (λ (k : ℕ). length (units_from s (start_of i) 0 k)) {x = count s - i} {y = suc n} (omega arith)
-      ∙ ap (λ (us : List ℕ). length us) (units-next s (start_of i) n m (ap (λ (k : ℕ). n - k) (sym e)))
+      ∙ ap (λ (us : List ℕ). length us) (units_next s (start_of i) n m (ap (λ (k : ℕ). n - k) (sym e)))
       ∙ (λ k. suc (length (units_from s (at k) 0 (left k))))
 
   pub counted_once : {i n : ℕ} → Entries s i n → n ≡ ruled i

@@ -57,11 +57,11 @@ unfolding rules
 batch_plays = refl
 
 -- a batch of 64, one of 65 and an empty one: three entries
-sizes-play :
+sizes_play :
     play_rule (head ++ (batch_of 64 ++ (adds 64 ++ (batch_of 65 ++ (adds 65 ++ batch_of 0))))) (replicate 27 170)
     ≡ output (record { answer = 0; written = 27 }) (entry 0 0 ++ (entry 5 0 ++ entry 0 0))
 unfolding rules
-sizes-play = refl
+sizes_play = refl
 
 -- ---- what refuses a file
 
@@ -103,8 +103,8 @@ refusals =
     ∷ refusal head 0 0 0
     ∷ []
 
-refusals-found :
+refusals_found :
     map (λ (c : Refusal). refusal_of c.file c.room ∷ (flaw_of c.file).place ∷ []) refusals
     ≡ map (λ (c : Refusal). c.answer ∷ c.place ∷ []) refusals
 unfolding rules
-refusals-found = refl
+refusals_found = refl

@@ -97,10 +97,10 @@ module _ (c : Control) (t : Slot) (e : ℕ) (l r g : List ℕ) where
       go true rest = refl
       go false rest = refl
 
-  pub batch-taken :
+  pub batch_taken :
       (s : List ℕ) (at n : ℕ) {k : ℕ} {os : List Op} → k ≡ min n (suc batch_room) → os ≡ ops_from s at k →
       append_on os c t e l r g ≡ append_on (ops_from s at n) c t e l r g
-  batch-taken s at n {k} {os} p q =
+  batch_taken s at n {k} {os} p q =
       ap (λ (os : List Op). append_on os c t e l r g) q
       ∙ under batch_room n
       (λ h.

@@ -36,13 +36,13 @@ use Rattle.write.specs.Begins.{step_signs}
 use Rattle.write.specs.Runs.{lift, step_on, after_step, run_on}
 use Rattle.write.specs.Machine.{going, call_on}
 use Rattle.write.specs.World.{answer_of, value_of, world_of}
-use Rattle.write.proofs.Left.{used_as, step_slot, step_value, step-lowers, many_steps, left_small}
+use Rattle.write.proofs.Left.{used_as, step_slot, step_value, step_lowers, many_steps, left_small}
 use Rattle.write.proofs.NeverBroken.{Sound, sound_step}
 use Rattle.write.proofs.Rising.{step_rising}
 use Rattle.play.specs.declared.turns.Far.{Far}
 use Rattle.play.specs.Player.{machine}
 use Rattle.play.specs.Turns.{meant, members_of, is_going, is_running, halt, halt_of, far, facing, went_on}
-use Rattle.play.proofs.Run.{run_from, run_starts, run_over, run-unrolls}
+use Rattle.play.proofs.Run.{run_from, run_starts, run_over, run_unrolls}
 use Rattle.play.proofs.Turned.{read_slot}
 use Rattle.read.proofs.Cases.{state_of}
 use Rattle.read.specs.Handles.{given}
@@ -66,19 +66,19 @@ module _ (c : Control) (s : Slot) (e : ℕ) (l r g : List ℕ) where
   abbrev Halts : Answer → Type 0
   Halts a = number a ≡ 0 → ⊥
 
-  poll-halts :
+  poll_halts :
       (k : ℕ) (held : Bool) (j : Job) → Halts (halt (Poll k) j held) →
       elim held [ true ↦ stopped j c s e | false ↦ moved (at (polling c (k + 1)) c) s e ] ≡ refused (halt (Poll k) j held) c s e
-  poll-halts k true Publish h = refl
-  poll-halts k true Try h = absurd (h refl)
-  poll-halts k true TakeFirst h = refl
-  poll-halts k true TakeSecond h = refl
-  poll-halts k false j h = absurd (h refl)
+  poll_halts k true Publish h = refl
+  poll_halts k true Try h = absurd (h refl)
+  poll_halts k true TakeFirst h = refl
+  poll_halts k true TakeSecond h = refl
+  poll_halts k false j h = absurd (h refl)
 
-  lastPoll-halts :
+  last_poll_halts :
       (k : ℕ) (held : Bool) (j : Job) → Halts (halt (LastPoll k) j held) → last_poll_move held k c s e ≡ refused (halt (LastPoll k) j held) c s e
-  lastPoll-halts k true j h = refl
-  lastPoll-halts k false j h = absurd (h refl)
+  last_poll_halts k true j h = refl
+  last_poll_halts k false j h = absurd (h refl)
 
   -- a step that is halted changes nothing
   halted :
@@ -86,7 +86,7 @@ module _ (c : Control) (s : Slot) (e : ℕ) (l r g : List ℕ) where
   unfolding step_by
   halted Idle h = refl
   halted Begin h = absurd (h refl)
-  halted (Poll k) h = ap (λ (m : Moved). lent m l r g) (poll-halts k (holds s e) c.job h)
+  halted (Poll k) h = ap (λ (m : Moved). lent m l r g) (poll_halts k (holds s e) c.job h)
   halted Copy h = absurd (h refl)
   halted Drain h = absurd (h refl)
   halted (Keep k) h = absurd (h refl)
@@ -95,7 +95,7 @@ module _ (c : Control) (s : Slot) (e : ℕ) (l r g : List ℕ) where
   halted Null h = absurd (h refl)
   halted Lock h = absurd (h refl)
   halted (LastSnap k) h = absurd (h refl)
-  halted (LastPoll k) h = ap (λ (m : Moved). lent m l r g) (lastPoll-halts k (holds s e) c.job h)
+  halted (LastPoll k) h = ap (λ (m : Moved). lent m l r g) (last_poll_halts k (holds s e) c.job h)
   halted Finish h = absurd (h refl)
   halted Gone h = refl
 
@@ -138,13 +138,13 @@ module _ (st : State) (l r g : List ℕ) where
       going_underway u =
           ap judged verdict ∙ (λ j. judged (verdict_of (underway_stays st.control.phase u j) (u j)))
 
-      idle-halt :
+      idle_halt :
           (p : Phase) → underway p ≡ false → judged (verdict_of (is_gone p) (underway p)) ≡ lent (refusal (halt p st.control.job true) st) l r g
-      idle-halt =
+      idle_halt =
           idle_cases (λ p. judged (verdict_of (is_gone p) (underway p)) ≡ lent (refusal (halt p st.control.job true) st) l r g) refl refl
 
       going_idle : underway st.control.phase ≡ false → going column rule st l r g ≡ lent (refusal (halt st.control.phase st.control.job true) st) l r g
-      going_idle u = ap judged verdict ∙ idle-halt st.control.phase u
+      going_idle u = ap judged verdict ∙ idle_halt st.control.phase u
 
   verdict_step : smallest (step_signs 12 st.control) ≡ verdict_of (is_gone st.control.phase) (underway st.control.phase)
   unfolding smallest entry
@@ -164,17 +164,17 @@ module _ (st : State) (l r g : List ℕ) where
   call_underway os act.Step p u = going_underway step_on 12 verdict_step u
   call_underway os act.Run p u = going_underway run_on 13 verdict_run u ∙ run_starts st l r g
 
-  call-idle :
+  call_idle :
       (os : List Op) (k : Act) → is_going k ≡ true → underway st.control.phase ≡ false →
       call_on (meant os k) st l r g ≡ lent (refusal (halt st.control.phase st.control.job true) st) l r g
   unfolding call_on
-  call-idle os act.Create p u = absurd (true≢false (sym p))
-  call-idle os (act.On i h) p u = absurd (true≢false (sym p))
-  call-idle os (act.Append kind key amount) p u = absurd (true≢false (sym p))
-  call-idle os (act.Batch n) p u = absurd (true≢false (sym p))
-  call-idle os (act.Open o) p u = absurd (true≢false (sym p))
-  call-idle os act.Step p u = going_idle step_on 12 verdict_step u
-  call-idle os act.Run p u = going_idle run_on 13 verdict_run u
+  call_idle os act.Create p u = absurd (true≢false (sym p))
+  call_idle os (act.On i h) p u = absurd (true≢false (sym p))
+  call_idle os (act.Append kind key amount) p u = absurd (true≢false (sym p))
+  call_idle os (act.Batch n) p u = absurd (true≢false (sym p))
+  call_idle os (act.Open o) p u = absurd (true≢false (sym p))
+  call_idle os act.Step p u = going_idle step_on 12 verdict_step u
+  call_idle os act.Run p u = going_idle run_on 13 verdict_run u
 
 -- whether a poll is held matters only where a call is under way
 idle_held : (p : Phase) (j : Job) (held : Bool) → underway p ≡ false → halt p j true ≡ halt p j held
@@ -194,10 +194,10 @@ pub said :
 said e x y = record { answer = ap answer_of e ∙ x; value = ap value_of e ∙ y; world = ap world_of e }
 
 -- the same of other names
-pub said-as :
+pub said_as :
     {o : Lent Reply} {f h : Far} {c d : Control} {ss ts : List Slot} {es fs l r g l' r' g' : List ℕ} → Said o h d ts fs l' r' g' → l ≡ l' → r ≡ r' → g ≡ g' →
     c ≡ d → ss ≡ ts → es ≡ fs → f ≡ h → Said o f c ss es l r g
-said-as q l r g c ss es f = record {
+said_as q l r g c ss es f = record {
   answer = q.answer ∙ ap (λ (f : Far). f.answer) (sym f);
   value = q.value ∙ ap (λ (f : Far). f.value) (sym f);
   world = q.world ∙ sym (λ i. machine (state_of (c i) (ss i) (es i)) (l i) (r i) (g i));
@@ -233,18 +233,18 @@ module _ (n : ℕ) (c : Control) (ss : List Slot) (es l r g : List ℕ) (h : Sou
       ap (lift (place c.phase) st) (halted c (here_slot c ss) (here_snap c es) l r g c.phase z) ∙ lifted_same st l r g (place c.phase) halts
 
   -- what a run makes of a step that is refused
-  run-halted :
+  run_halted :
       (a : Answer) (m : ℕ) → number a ≡ suc m →
       after_step (run_from (n + 1)) n (lent (refusal a st) l r g) ≡ lent (record { answer = a; value = n; state = st }) l r g
-  run-halted a m z = rw (z, after_step)
+  run_halted a m z = rw (z, after_step)
 
-  due-halted :
+  due_halted :
       (run : Bool) → (run ≡ false → n ≡ 0) → underway c.phase ≡ true → (number halts ≡ 0 → ⊥) →
       due run n st l r g ≡ lent (record { answer = halts; value = n; state = st }) l r g
-  due-halted true y u z =
-      run-unrolls st l r g n h.good.whole u ∙ ap (after_step (run_from (n + 1)) n) (step_halted z)
-      ∙ run-halted halts (number halts - 1) (omega arith)
-  due-halted false y u z =
+  due_halted true y u z =
+      run_unrolls st l r g n h.good.whole u ∙ ap (after_step (run_from (n + 1)) n) (step_halted z)
+      ∙ run_halted halts (number halts - 1) (omega arith)
+  due_halted false y u z =
       step_halted z ∙ ap (λ (v : ℕ). lent (record { answer = halts; value = v; state = st }) l r g) (sym (y refl))
 
   -- the next step is at hand
@@ -262,31 +262,31 @@ module _ (n : ℕ) (c : Control) (ss : List Slot) (es l r g : List ℕ) (h : Sou
   }
 
 -- a step or a run begins
-pub going-starts :
+pub going_starts :
     (os : List Op) (k : Act) → is_going k ≡ true → (c : Control) (ss : List Slot) (es l r g : List ℕ) → Sound (state_of c ss es) l r g →
     Going (call_on (meant os k) (state_of c ss es) l r g) (is_running k) (facing 0 (halt_of c (here_slot c ss) (here_snap c es))) c ss es l r g
-going-starts os k p c ss es l r g h =
+going_starts os k p c ss es l r g h =
     let st = state_of c ss es in
     faces 0 c ss es l r g h (is_running k) (call_underway st l r g os k p)
     (λ z.
     split (underway c.phase)
-    (λ u. call_underway st l r g os k p u ∙ due-halted 0 c ss es l r g h (is_running k) (λ e. refl) u z)
+    (λ u. call_underway st l r g os k p u ∙ due_halted 0 c ss es l r g h (is_running k) (λ e. refl) u z)
     (λ u.
-    call-idle st l r g os k p u
+    call_idle st l r g os k p u
     ∙ ap (λ (a : Answer). lent (refusal a st) l r g) (idle_held c.phase c.job (holds (here_slot c ss) (here_snap c es)) u)))
     (omega (arith, left_small c h.good.whole))
 
 -- the same of the slot at k
-pub going-begins :
+pub going_begins :
     (os : List Op) (k : Act) → is_going k ≡ true → (c : Control) (ss : List Slot) (es l r g : List ℕ) → Sound (state_of c ss es) l r g → {i : ℕ} →
     i ≡ place c.phase → {s : Slot} → s ≡ get_or ss i no_slot → {f : Far} → f ≡ facing 0 (halt_of c s (get_or es i 0)) →
     Going (call_on (meant os k) (state_of c ss es) l r g) (is_running k) f c ss es l r g
-going-begins os k p c ss es l r g h {i} e q x =
+going_begins os k p c ss es l r g h {i} e q x =
     subst (λ (f : Far). Going (call_on (meant os k) (state_of c ss es) l r g) (is_running k) f c ss es l r g)
     (sym
     (x ∙ ap (λ (s : Slot). facing 0 (halt_of c s (get_or es i 0))) q
     ∙ ap (λ (i : ℕ). facing 0 (halt_of c (get_or ss i no_slot) (get_or es i 0))) e))
-    (going-starts os k p c ss es l r g h)
+    (going_starts os k p c ss es l r g h)
 
 -- ---- a step of it
 
@@ -338,7 +338,7 @@ module _ {o : Lent Reply} {run : Bool} {n : ℕ} {c : Control} {ss : List Slot} 
       lowers : number m.answer ≡ 0 → left c ≡ suc (left m.control)
       lowers z =
           subst (λ (w : Lent Moved). number w.made.answer ≡ 0 → left c ≡ suc (left w.made.control)) (sym x)
-          (step-lowers c s (get_or es i 0) h.good.whole l r g) z
+          (step_lowers c s (get_or es i 0) h.good.whole l r g) z
 
       tells : m.value ≡ bit (not (underway m.control.phase))
       tells =
@@ -357,7 +357,7 @@ module _ {o : Lent Reply} {run : Bool} {n : ℕ} {c : Control} {ss : List Slot} 
         unrolled : o ≡ after_step (run_from (n + 1)) n (lent (record { answer = m.answer; value = m.value; state = to }) l' r' g')
         unrolled =
             v.same ∙ ap (λ (b : Bool). due b n (state_of c ss es) l r g) y
-            ∙ run-unrolls (state_of c ss es) l r g n h.good.whole v.busy ∙ ap (after_step (run_from (n + 1)) n) stepped
+            ∙ run_unrolls (state_of c ss es) l r g n h.good.whole v.busy ∙ ap (after_step (run_from (n + 1)) n) stepped
 
         run_made : number m.answer ≡ 0 → o ≡ run_from (n + 1) to l' r' g'
         run_made z = unrolled ∙ rw (z, after_step)
@@ -376,21 +376,21 @@ module _ {o : Lent Reply} {run : Bool} {n : ℕ} {c : Control} {ss : List Slot} 
       over_behind e d =
           (record { sound = sound_after; goes = λ b. absurd (true≢false (sym b ∙ e)); ends = λ b. d }, λ b. absurd (true≢false (sym b ∙ e)))
 
-      ran-value :
+      ran_value :
           run ≡ true → number m.answer ≡ 0 → (b : Bool) → eqb m.value 0 ≡ b →
           Behind (elim b [ true ↦ facing (n + 1) next | false ↦ far false answer.Done (n + 1) ])
-      ran-value y z true d =
+      ran_value y z true d =
           let u = goes_on (eqb-true m.value 0 d) in
           let e : o ≡ due run (n + 1) to l' r' g' = run_made y z ∙ ap (λ (b : Bool). due b (n + 1) to l' r' g') (sym y) in (
             faces (n + 1) m.control to.slots to.snapshots l' r' g' sound_after run (λ w. e)
                 (λ w.
                 e
-                ∙ due-halted (n + 1) m.control to.slots to.snapshots l' r' g' sound_after run
+                ∙ due_halted (n + 1) m.control to.slots to.snapshots l' r' g' sound_after run
                 (λ b. absurd (true≢false (sym y ∙ b))) u w)
                 (omega (arith, lowers z, v.few)),
             λ b. omega (arith, lowers z),
           )
-      ran-value y z false d =
+      ran_value y z false d =
           over_behind refl
           (said (run_made y z ∙ run_over to l' r' g' (n + 1) (ended (eqb-false m.value 0 d))) refl refl)
 
@@ -400,7 +400,7 @@ module _ {o : Lent Reply} {run : Bool} {n : ℕ} {c : Control} {ss : List Slot} 
             | true ↦ elim (eqb m.value 0) [ true ↦ facing (n + 1) next | false ↦ far false answer.Done (n + 1) ]
             | false ↦ far false m.answer n
           ])
-      ran y true d = ran-value y (eqb-true (number m.answer) 0 d) (eqb m.value 0) refl
+      ran y true d = ran_value y (eqb-true (number m.answer) 0 d) (eqb m.value 0) refl
       ran y false d =
           let z = eqb-false (number m.answer) 0 d in
           over_behind refl (said (run_stopped y (number m.answer - 1) (omega arith)) refl refl)

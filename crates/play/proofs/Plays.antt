@@ -24,25 +24,25 @@ use Rattle.write.proofs.NeverBroken.{Sound, call_made, sound_call}
 use Rattle.play.specs.declared.turns.Far.{Far}
 use Rattle.play.specs.declared.Reached.{Reached}
 use Rattle.format.specs.Schedule.{record_bytes, members_at, units_from}
-use Rattle.format.proofs.Units.{units-next}
+use Rattle.format.proofs.Units.{units_next}
 use Rattle.format.specs.Transcript.{entry_bytes, entry_of, entries_of}
 use Rattle.play.specs.Schedule.{decoded, calls_in}
 use Rattle.play.specs.Player.{transcript, machine}
 use Rattle.play.specs.Turns.{meant, named, is_going, turn_on, over}
 use Rattle.play.specs.declared.schedule.Act.{Act}
-use Rattle.play.proofs.Turned.{within, put_slot, turn-made}
+use Rattle.play.proofs.Turned.{within, put_slot, turn_made}
 use Rattle.play.proofs.Going.{Said, said}
 use Rattle.read.proofs.Cases.{state_of}
 
 -- a call that takes one turn: what its move says, its slot being put back
-pub turn-said :
+pub turn_said :
     (os : List Op) (k : Act) → is_going k ≡ false → (c : Control) (ss : List Slot) (es l r g : List ℕ) {i : ℕ} → i ≡ named k c.free →
     {s : Slot} → s ≡ get_or ss (within i) no_slot → {m : Moved} {l' r' g' : List ℕ} → lent m l' r' g' ≡ turn_on (meant os k) i c s l r g →
     Said (call_on (meant os k) (state_of c ss es) l r g) (over m) m.control (set ss (within i) m.slot) es l' r' g'
-turn-said os k p c ss es l r g {i} e q x =
+turn_said os k p c ss es l r g {i} e q x =
     let st = state_of c ss es in
     said
-    (turn-made st l r g os k p ∙ ap (λ (i : ℕ). put_slot (within i) st (turn_on (meant os k) i c (get_or ss (within i) no_slot) l r g)) (sym e)
+    (turn_made st l r g os k p ∙ ap (λ (i : ℕ). put_slot (within i) st (turn_on (meant os k) i c (get_or ss (within i) no_slot) l r g)) (sym e)
     ∙ ap (λ (s : Slot). put_slot (within i) st (turn_on (meant os k) i c s l r g)) (sym q) ∙ ap (put_slot (within i) st) (sym x))
     refl refl
 
@@ -83,11 +83,11 @@ sound_judged st l r g h a b x y =
       snapshots = y;
     }
 
-pub plays-start :
+pub plays_start :
     (s out : List ℕ) (st : State) (l r g : List ℕ) → Sound st l r g → length (transcript (calls_in s) (machine st l r g)) ≤ length out →
     (let w = machine st l r g in
     Plays s out (transcript (calls_in s) w) (played call_rule (calls_in s) w).world out 0 0 st.control st.slots st.snapshots l r g)
-plays-start s out st l r g h b =
+plays_start s out st l r g h b =
     let w = machine st l r g in
     let e : remain s 0 ≡ length s / record_bytes = omega arith in
     let f : rest s 0 w ≡ played call_rule (calls_in s) w = ap (λ (n : ℕ). played call_rule (map (decoded s) (units_from s 0 0 n)) w) e in
@@ -127,12 +127,12 @@ module _ {s out₀ whole : List ℕ} {end : World} {out : List ℕ} {from to : �
           ∙ ap (λ (q : Played). take to out ++ entries_of q.replies) (sym none) ∙ p.same in
           sym (take-append-drop (length whole) out) ∙ (λ j. x j ++ p.behind j)
 
-      pub plays-reached :
+      pub plays_reached :
           lent {A = Reached} (record { state = state_of c ss es; used = from; written = to }) l r g
           ≡ lent
           (record { state = end.state; used = record_bytes * (length s / record_bytes); written = length whole })
           end.left end.right end.log
-      plays-reached =
+      plays_reached =
           let e : here ≡ end = ap (λ (q : Played). q.world) (sym none) ∙ p.ends in
           let u : from ≡ record_bytes * (length s / record_bytes) =
           (omega (arith, p.used)) in
@@ -161,7 +161,7 @@ module _ {s out₀ whole : List ℕ} {end : World} {out : List ℕ} {from to : �
           let n = remain s from - 1 in
           let k = min (members_at s from) n in
           ap (units_from s from 0) {x = remain s from} {y = suc n} (omega (arith, plays_record))
-          ∙ units-next s from n k (omega arith)
+          ∙ units_next s from n k (omega arith)
           ∙ ap (λ (m : ℕ). from ∷ units_from s next 0 m) {x = n - k} {y = remain s next} (omega (arith, plays_record))
 
       opens : rest s from here ≡ answering (answer_of reply) (value_of reply) (played call_rule more (world_of reply))
@@ -173,12 +173,12 @@ module _ {s out₀ whole : List ℕ} {end : World} {out : List ℕ} {from to : �
       plays_room =
           omega (arith, p.count, p.room, p.sized, ap (λ (q : Played). length (entries_of q.replies)) opens)
 
-      pub plays-next :
+      pub plays_next :
           {f : Far} {d : Control} {ts : List Slot} {fs l' r' g' : List ℕ} → Said (call_on call (state_of c ss es) l r g) f d ts fs l' r' g' →
           (out' : List ℕ) → out' ≡ take to out ++ (entry_of f.answer f.value ++ drop (to + entry_bytes) out) → {x : ℕ} → x ≡ next →
           Plays s out₀ whole end out' x (to + entry_bytes) d ts fs l' r' g'
       unfolding entries_of
-      plays-next {f} {d} {ts} {fs} {l'} {r'} {g'} q out' w there =
+      plays_next {f} {d} {ts} {fs} {l'} {r'} {g'} q out' w there =
           let e : Said reply f d ts fs l' r' g' =
           subst (λ (o : Lent Reply). Said o f d ts fs l' r' g') (sym (call_made call (state_of c ss es) l r g p.sound)) q in
           let after : World = machine (state_of d ts fs) l' r' g' in

@@ -21,8 +21,8 @@ use Rattle.play.specs.Player.{transcript, output, play_rule}
 use Rattle.play.specs.Refusals.{Applies, short, unmarked, version, torn, unknown, cut_short, mixed, crowded, amount_at, Outcome, Refusals}
 use Rattle.play.proofs.Counted.{entries_counted, entries_ruled}
 use Rattle.play.proofs.Lengths.{file_length}
-use Rattle.format.proofs.Records.{members_batch, members_none, Good, not_bad_good, bad-cases, marked_long, marked_third, flaw_unmarked, flaw_version, flaw_torn, flaw_whole, flaw_bad, flaw_none}
-use Rattle.play.proofs.Rule.{play-flawed, play_short, play-made}
+use Rattle.format.proofs.Records.{members_batch, members_none, Good, not_bad_good, bad_cases, marked_long, marked_third, flaw_unmarked, flaw_version, flaw_torn, flaw_whole, flaw_bad, flaw_none}
+use Rattle.play.proofs.Rule.{play_flawed, play_short, play_made}
 
 -- ---- the tests, on the file's bytes
 
@@ -105,7 +105,7 @@ module _ (s out : List ℕ) where
 
   -- the answer of the rule where the file's flaw is this one
   flawed : {a i : ℕ} → flaw_of s ≡ flaw a i → (a ≡ 0 → ⊥) → output (record { answer = a; written = 0 }) out ≡ play_rule s out
-  flawed e = play-flawed s out (sym (ap (λ (f : Flaw). f.answer) e))
+  flawed e = play_flawed s out (sym (ap (λ (f : Flaw). f.answer) e))
 
   from_21 : From 21
   from_21 b f = (among f).0
@@ -142,7 +142,7 @@ module _ (s out : List ℕ) where
         bad_applies i l b =
             let n = members_at s (start_of i) in
             let same : 0 < n → n ≡ amount_at s i = λ h. members_batch s (start_of i) (batch_alone s i h) in
-            bad-cases s i b (λ h. unknown i (omega arith) (λ k. omega arith)) (λ h. unknown i (omega arith) (λ k. omega arith))
+            bad_cases s i b (λ h. unknown i (omega arith) (λ k. omega arith)) (λ h. unknown i (omega arith) (λ k. omega arith))
             (λ h. cut_short i (omega arith) (batch_alone s i (omega arith)) (omega (arith, same (omega arith))))
             (λ f j h k. mixed i j (batch_alone s i (omega arith)) (omega (arith, same (omega arith))) (omega arith) k)
 
@@ -166,7 +166,7 @@ module _ (s out : List ℕ) where
               let n = 9 * entries_in s in
               let w = transcript (calls_of s) fresh_world in
               let long : length w ≡ n = file_length s fresh_world in
-              subst (Outcome s out) (play-made s out flawless {w = w ++ drop n out} refl h refl) (
+              subst (Outcome s out) (play_made s out flawless {w = w ++ drop n out} refl h refl) (
                 λ z. record {
                   flawless = λ a f. omega (arith, among f, up from_25 (not_25 h) a f);
                   records = count s;

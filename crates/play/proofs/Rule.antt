@@ -30,9 +30,9 @@ module _ (s out : List ℕ) where
       sym
       (ap (λ (a : ℕ). rule a (eqb a 0)) e ∙ ap (rule a) (ne_eqb a 0 n))
 
-  pub play-flawed :
+  pub play_flawed :
       {a : ℕ} → a ≡ (flaw_of s).answer → (a ≡ 0 → ⊥) → output (record { answer = a; written = 0 }) out ≡ play_rule s out
-  play-flawed {a} e n =
+  play_flawed {a} e n =
       refused a
       (ap (λ (b : Bool). answered b (leb (entry_bytes * entries_in s) (length out))) (ne_eqb (flaw_of s).answer 0 (λ z. n (e ∙ z))) ∙ sym e) n
 
@@ -41,12 +41,12 @@ module _ (s out : List ℕ) where
     play_short h =
         refused 25 (λ j. answered (eq-eqb (flaw_of s).answer 0 e j) (lt-leb (entry_bytes * entries_in s) (length out) h j)) (eqb-false 25 0 refl)
 
-    pub play-made :
+    pub play_made :
         {n : ℕ} {w : List ℕ} → n ≡ entry_bytes * entries_in s → entry_bytes * entries_in s ≤ length out →
         w ≡ transcript (calls_of s) fresh_world ++ drop (entry_bytes * entries_in s) out →
         output (record { answer = 0; written = n }) w ≡ play_rule s out
     unfolding play_rule
-    play-made {n} {w} x h y =
+    play_made {n} {w} x h y =
         let z : refusal_of s (length out) ≡ 0 =
         λ j. answered (eq-eqb (flaw_of s).answer 0 e j) (le-leb (entry_bytes * entries_in s) (length out) h j) in
         (λ j. output (record { answer = 0; written = x j }) (y j)) ∙ sym (ap (λ (a : ℕ). rule a (eqb a 0)) z)

@@ -10,7 +10,7 @@ use Rattle.read.specs.Machine.{underway}
 use Rattle.read.specs.Calls.{Lent}
 use Rattle.write.specs.Runs.{step_on, after_step, ran_out, enough, run_while, run_on}
 use Rattle.write.proofs.Control.{Whole}
-use Rattle.write.proofs.RunLaws.{run_out, run-unrolled}
+use Rattle.write.proofs.RunLaws.{run_out, run_unrolled}
 
 -- n steps are made
 abbrev pub run_from : ℕ → State → List ℕ → List ℕ → List ℕ → Lent Reply
@@ -25,6 +25,6 @@ module _ (st : State) (l r g : List ℕ) where
     pub run_over : underway st.control.phase ≡ false → run_from n st l r g ≡ ran_out n st l r g
     run_over u = run_out enough n st l r g u
 
-    pub run-unrolls :
+    pub run_unrolls :
         Whole st.control → underway st.control.phase ≡ true → run_from n st l r g ≡ after_step (run_from (n + 1)) n (step_on st l r g)
-    run-unrolls w u = run-unrolled n st l r g w u
+    run_unrolls w u = run_unrolled n st l r g w u

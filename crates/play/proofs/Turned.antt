@@ -21,7 +21,7 @@ use Rattle.read.specs.declared.State.{State}
 use Rattle.read.specs.declared.Reply.{Reply}
 use Rattle.read.specs.declared.Verdict.{Verdict}
 use Rattle.read.specs.declared.Verdict.TheVariants.{Admitted, Refused}
-use Rattle.read.proofs.Cases.{state_of, reply-back, reply_past, reply_in, create_room}
+use Rattle.read.proofs.Cases.{state_of, reply_back, reply_past, reply_in, create_room}
 use Rattle.read.specs.Machine.{slot_total, slot_count, no_slot, new_slot, behind}
 use Rattle.read.specs.Handles.{smallest, made_of, handle_on, create_signs, create_on}
 use Rattle.read.specs.Calls.{Lent, lent, slot_at, refusal, reply_of, handle_reply}
@@ -98,18 +98,18 @@ module _ (st : State) where
       append_kept Admitted false = kept 0 _ _ _ _ _ _ _
       append_kept (Refused a) early = kept 0 _ _ _ _ _ _ _
 
-    flush-kept :
+    flush_kept :
         (b : Bool) →
         lift 0 st (lent (elim b [ true ↦ value 1 (begun c) first (snap_at st 0) | false ↦ value 0 c first (snap_at st 0) ]) l r g)
         ≡ put_slot 0 st (lent (elim b [ true ↦ value 1 (begun c) first 0 | false ↦ value 0 c first 0 ]) l r g)
-    flush-kept true = kept 0 _ _ _ _ _ _ _
-    flush-kept false = kept 0 _ _ _ _ _ _ _
+    flush_kept true = kept 0 _ _ _ _ _ _ _
+    flush_kept false = kept 0 _ _ _ _ _ _ _
 
     opened_kept : (o : Opening) → lift 0 st (lent (opened o c first (snap_at st 0)) l r g) ≡ put_slot 0 st (lent (opened o c first 0) l r g)
     unfolding opened
     opened_kept opening.Publish = kept 0 _ _ _ _ _ _ _
     opened_kept opening.Try = kept 0 _ _ _ _ _ _ _
-    opened_kept opening.Flush = flush-kept (ltb c.swapped c.length)
+    opened_kept opening.Flush = flush_kept (ltb c.swapped c.length)
     opened_kept opening.Take = kept 0 _ _ _ _ _ _ _
 
     open_kept :
@@ -139,7 +139,7 @@ module _ (st : State) where
     created Admitted e =
         ap (λ (i : ℕ). put i (moved_by c (creates Admitted (slot_at st i)))) (sym (within_here c.free (create_room c e)))
     created (Refused a) e =
-        ap (λ (x : Reply). lent x l r g) (reply-back c.free a 0 st) ∙ sym (unslot (within c.free) a)
+        ap (λ (x : Reply). lent x l r g) (reply_back c.free a 0 st) ∙ sym (unslot (within c.free) a)
 
     module _ (i : ℕ) (h : Handle) where
       abbrev touches : Bool → Slot → Moved
@@ -159,15 +159,15 @@ module _ (st : State) where
     append_made os =
         append_kept os (smallest (writer_signs 7 (not (lawful_batch os)) (crowds (length os) c) c first)) c.first
 
-    pub turn-made :
+    pub turn_made :
         (os : List Op) (k : Act) → is_going k ≡ false →
         (let i = named k c.free in
         call_on (meant os k) st l r g ≡ put_slot (within i) st (turn_on (meant os k) i c (slot_at st (within i)) l r g))
     unfolding call_on turn_on open_on create_on
-    turn-made os act.Create p = created (smallest (create_signs c)) refl
-    turn-made os (act.On i h) p = touched_by i h (leb slot_total i) refl
-    turn-made os (act.Append kind key amount) p = append_made (op kind key amount ∷ [])
-    turn-made os (act.Batch n) p = append_made os
-    turn-made os (act.Open o) p = open_kept o (smallest (writer_signs (column_of o) false false c first))
-    turn-made os act.Step p = absurd (true≢false p)
-    turn-made os act.Run p = absurd (true≢false p)
+    turn_made os act.Create p = created (smallest (create_signs c)) refl
+    turn_made os (act.On i h) p = touched_by i h (leb slot_total i) refl
+    turn_made os (act.Append kind key amount) p = append_made (op kind key amount ∷ [])
+    turn_made os (act.Batch n) p = append_made os
+    turn_made os (act.Open o) p = open_kept o (smallest (writer_signs (column_of o) false false c first))
+    turn_made os act.Step p = absurd (true≢false p)
+    turn_made os act.Run p = absurd (true≢false p)

@@ -23,7 +23,7 @@ use Rattle.write.specs.Begins.{taking, opened}
 use Rattle.write.specs.Numbers.{is_try}
 use Rattle.write.proofs.Cases.{keeping_cases, draining_cases, polled_cases, polling_cases, beginning_cases, last_polling_cases, last_snapping_cases, snapping_cases, with_job}
 use Rattle.write.proofs.Control.{Whole, Fits, fits}
-use Rattle.demands.specs.Account.{Move, null, Store, unswapped, is_odd, Account, with_plan, advanced, on_swap, asked, begins as opening_of}
+use Rattle.demands.specs.Account.{Move, Store, unswapped, is_odd, Account, with_plan, advanced, on_swap, asked, begins as opening_of}
 use Rattle.demands.proofs.Account.Moves.{makes}
 use Rattle.demands.proofs.Phases.{is_try_job}
 use Rattle.demands.proofs.Account.Plan.{move_of, plan, plan_free, step_plan, not_made}

@@ -22,7 +22,7 @@ use Rattle.read.specs.declared.Handle.{Handle}
 use Rattle.read.specs.declared.Handle.TheVariants.{Drop, Enter, GoOn, Release, LookUp, WasDropped}
 use Rattle.read.specs.declared.Made.{Made}
 use Rattle.read.specs.Machine.{open_on, with_reading, guard_count, shut, is_open, stands_right, put_guard, first_guard, any_open, all_open, is_due, is_load}
-use Rattle.read.specs.Handles.{made_of, with_due, freed, guarded, loaded, entered, went_on, released, copy_of, bit, handled, handled_by}
+use Rattle.read.specs.Handles.{made_of, with_due, freed, guarded, entered, went_on, released, copy_of, bit, handled, handled_by}
 use Rattle.read.specs.Admission.{column, entry}
 use Rattle.write.specs.Steps.{holds, seen}
 use Rattle.demands.specs.Account.{delays, Reader, with_at, lowest, inside, reader as reader_of, dropped, turned, opens, closes, reads_epoch, spoke, quits}

@@ -38,7 +38,7 @@ use Rattle.write.specs.World.{World, world_of, reply}
 use Rattle.write.proofs.Verdicts.{judging, step_underway}
 use Rattle.write.proofs.Control.{Fits, fits, some_slot, whole_step}
 use Rattle.write.proofs.Left.{outcome, step_answer, Stepped, done, held, declined, declined_move, step_stepped, step_value}
-use Rattle.demands.specs.Account.{Reader, Account, Move, null, with_at, of_reader, reads_epoch, dropped, with_plan, advanced, noted}
+use Rattle.demands.specs.Account.{Reader, Account, Move, with_at, of_reader, reads_epoch, dropped, with_plan, advanced, noted}
 use Rattle.demands.specs.Table.{least, meets_reader, wanted, wanted_value, worth}
 use Rattle.demands.proofs.Account.Moves.{makes, meets, is_swap, each_move}
 use Rattle.demands.proofs.Shown.Guards.{same_at, other_at}

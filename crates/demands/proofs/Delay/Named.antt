@@ -22,7 +22,7 @@ use Rattle.write.specs.Begins.{writer_signs, column_of}
 use Rattle.write.specs.Runs.{snap_at}
 use Rattle.write.specs.World.{World}
 use Rattle.write.proofs.Verdicts.{open_idle}
-use Rattle.demands.specs.Account.{delays, Reader, Account, Move, poll, each, inside}
+use Rattle.demands.specs.Account.{delays, Reader, Account, Move, poll, inside}
 use Rattle.demands.specs.Table.{least, busy, meets_reader, wanted}
 use Rattle.demands.specs.Follows.{Named}
 use Rattle.demands.proofs.Shown.Invariant.{Shape, outside, announced, inside as entered}

@@ -1,6 +1,6 @@
 -- Numbers below a bound of which some are taken: how many are not, and lists of them. One that has no number twice leaves none out exactly
 -- where it has as many members as there are.
-use Prim.Native.Nat.{ℕ, zero, suc, ◌≤◌, ◌<◌}
+use Prim.Native.Nat.{ℕ, zero, suc, ◌<◌}
 use mathlib.Core.Path.{◌≡◌, refl, sym, ap, ◌∙◌}
 use mathlib.Core.Logic.{◌≢◌, ⊎_elim}
 use mathlib.Core.Bool.{Bool, true, false, ◌||◌}

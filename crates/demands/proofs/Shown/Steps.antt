@@ -34,7 +34,7 @@ use Rattle.demands.proofs.Sides.{read_copy, write_copy}
 use Rattle.demands.proofs.Shown.Invariant.{Seen, after_move, Quiet, Stage, Lacks, Inv, op_at, ops_from, ops_of, Reach, reach, before, reach_at, firstly, or_all, Held, ClearLog}
 use Rattle.demands.proofs.Shown.Slot.{Within, within_same, within_firstly, weaken, passed_held, polled_view, turned_view, vacated_view}
 use Rattle.demands.proofs.Shown.Log.{no_op, length_ops, op_ops, ops_unlogged, op_applied, over_whole}
-use Rattle.demands.proofs.Shown.Stages.{Stands, here, stands_keeping, stands_draining, stands_polling, begins_beginning, stands_snapping, stands_last_polling, stands_last_snapping, snapping_onward, steered, onward, full, stage_polling, stage_beginning, stage_snapping, idle_stage, poll_stage, copy_stage, drain_stage, keep_stage, snap_stage, swap_stage, from_null, from_lock, from_last_snap, from_last_poll, from_finish, to_lock, to_last_polling, to_last_snapping, to_gone}
+use Rattle.demands.proofs.Shown.Stages.{Stands, stands_keeping, stands_draining, stands_polling, begins_beginning, stands_snapping, stands_last_polling, stands_last_snapping, snapping_onward, steered, onward, full, stage_polling, stage_beginning, stage_snapping, idle_stage, poll_stage, copy_stage, drain_stage, keep_stage, snap_stage, swap_stage, from_null, from_lock, from_last_snap, from_last_poll, from_finish, to_lock, to_last_polling, to_last_snapping, to_gone}
 use Rattle.demands.proofs.Shown.Unused.{clear_unlogged}
 use Rattle.demands.proofs.Shown.Lifts.{ctl, with_control, wrote, slot_back, snap_to, snap_back, slot_back_lem, snap_back_lem, both_back, free_keeps, ViewAs, StageIn, slot_keeps, control_keeps, write_keeps, snap_keeps}
 

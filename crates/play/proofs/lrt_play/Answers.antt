@@ -13,7 +13,7 @@ use Rattle.play.specs.Schedule.{calls_in}
 use Rattle.play.specs.Player.{transcript}
 use Rattle.play.proofs.Lengths.{part_length, part_written, part_bytes, fresh_world_lem, fresh_whole}
 use Rattle.format.proofs.Records.{flawless}
-use Rattle.play.proofs.Rule.{play-flawed, play_short, play-made}
+use Rattle.play.proofs.Rule.{play_flawed, play_short, play_made}
 use borrow.Author.Rules.{part_to_end}
 use Rattle.play.proofs.lrt_play.Goals as goal
 use Rattle.play.proofs.lrt_play.Goals.{Else-flaw-ne0}
@@ -38,7 +38,7 @@ overflow_mul-flaw c =
 pub returns-then-flaw-ne0 : goal.returns-then-flaw-ne0
 returns-then-flaw-ne0 c =
     let a = c.args in
-    play-flawed a.schedule.now a.out.now (ap (λ (f : Flaw). f.answer) c.check-flaw.ensures) c.if-flaw-ne0.true
+    play_flawed a.schedule.now a.out.now (ap (λ (f : Flaw). f.answer) c.check-flaw.ensures) c.if-flaw-ne0.true
 
 pub returns-then-out-flaw : goal.returns-then-out-flaw
 returns-then-out-flaw c =
@@ -65,6 +65,6 @@ returns c =
     let a = c.args in
     let s = a.schedule.now in
     let w = fresh_world_lem c.fresh_state-st.ensures in
-    play-made s a.out.now (sound (goal.at.returns c).Else-flaw-ne0) (part_written s (part_to_end s 5) _ p.ensures.0)
+    play_made s a.out.now (sound (goal.at.returns c).Else-flaw-ne0) (part_written s (part_to_end s 5) _ p.ensures.0)
     (omega (arith, c.if-out-flaw.false, entries (goal.at.returns c).Else-flaw-ne0))
     (p.ensures.1 ∙ part_bytes s (part_to_end s 5) a.out.now w)

@@ -22,8 +22,8 @@ use Rattle.write.proofs.Turns.{place_below}
 use Rattle.format.proofs.Bytes.{put_entry}
 use Rattle.play.specs.Schedule.{ops_from, decoded}
 use Rattle.play.proofs.Turned.{within_below, read_slot}
-use Rattle.play.proofs.Going.{Said, Going, going_alone, going-begins, going_steps, put_same, put_other, sound_after, next_slot, said-as, ahead_less}
-use Rattle.play.proofs.Plays.{remain, next, plays-start, plays_record, plays_room, plays-next, plays_end, plays-reached, sound_judged, turn-said}
+use Rattle.play.proofs.Going.{Said, Going, going_alone, going_begins, going_steps, put_same, put_other, sound_after, next_slot, said_as, ahead_less}
+use Rattle.play.proofs.Plays.{remain, next, plays_start, plays_record, plays_room, plays_next, plays_end, plays_reached, sound_judged, turn_said}
 use Rattle.read.proofs.Cases.{state_of}
 use Rattle.play.proofs.play_on.Goals as goal
 use Rattle.play.proofs.play_on.Goals.{In-loop-from, Joined-is_going, Joined-own-t, Start, else-is_going, else-own-t, then-is_going+else-loop-far-test, then-own-t}
@@ -74,10 +74,10 @@ says j =
     d.ensures.1
     (elim f.branch [
       | then-is_going+else-loop-far-test w ↦
-          said-as (w.loop-far.invariant.0.ends w.loop-far-test.false) w.left-is w.right-is w.log-is w.c-is w.slots-is w.snaps-is w.far-is
+          said_as (w.loop-far.invariant.0.ends w.loop-far-test.false) w.left-is w.right-is w.log-is w.c-is w.slots-is w.snaps-is w.far-is
       | else-is_going w ↦
-          said-as
-          (turn-said (ops_from s (v.from + record_bytes) (members_of d.result)) d.result (sym p ∙ w.if-is_going.false) v.c v.slots v.snaps v.left v.right v.log w.named-i.ensures
+          said_as
+          (turn_said (ops_from s (v.from + record_bytes) (members_of d.result)) d.result (sym p ∙ w.if-is_going.false) v.c v.slots v.snaps v.left v.right v.log w.named-i.ensures
           (read_slot v.slots _ v.invariant.sound.slots (within_below w.named-i.result)) w.turn-m.ensures)
           w.left-is w.right-is w.log-is w.c-is w.slots-is w.snaps-is (w.far-is ∙ w.over-far.ensures)
     ])
@@ -100,7 +100,7 @@ there j =
 pub loop-from-init : goal.loop-from-init
 unfolding slot_count
 loop-from-init c =
-    plays-start c.args.s.now c.args.out.now c.args.st c.args.left.now c.args.right.now c.args.log.now (begins (goal.at.loop-from-init c).Start)
+    plays_start c.args.s.now c.args.out.now c.args.st c.args.left.now c.args.right.now c.args.log.now (begins (goal.at.loop-from-init c).Start)
     c.requires.3
 
 pub offset_bounds-slots-k : goal.offset_bounds-slots-k
@@ -116,7 +116,7 @@ pub loop-far-init : goal.loop-far-init
 loop-far-init c =
     let v = c.loop-from in
     let s = c.args.s.now in (
-      going-begins (ops_from s (v.from + record_bytes) (members_of c.decode-call.result)) c.decode-call.result (sym c.is_going.ensures ∙ c.if-is_going.true) v.c v.slots v.snaps v.left v.right v.log
+      going_begins (ops_from s (v.from + record_bytes) (members_of c.decode-call.result)) c.decode-call.result (sym c.is_going.ensures ∙ c.if-is_going.true) v.c v.slots v.snaps v.left v.right v.log
           v.invariant.sound c.place-k.ensures (read_slot v.slots _ v.invariant.sound.slots (place_below c.loop-from.invariant.sound.good.whole c.place-k.ensures))
           c.facing-far.ensures,
       c.place-k.ensures,
@@ -193,7 +193,7 @@ loop-from-smaller c = omega (arith, whole (goal.at.loop-from-smaller c).In-loop-
 
 pub loop-from-preserved : goal.loop-from-preserved
 loop-from-preserved c =
-    plays-next c.loop-from.invariant c.loop-from-test.true (says (goal.at.loop-from-preserved c).Joined-is_going) _
+    plays_next c.loop-from.invariant c.loop-from-test.true (says (goal.at.loop-from-preserved c).Joined-is_going) _
     (c.put.ensures ∙ put_entry _ _ _ _ (plays_room c.loop-from.invariant c.loop-from-test.true)) (there (goal.at.loop-from-preserved c).Joined-is_going)
 
 pub shape_of-out : goal.shape_of-out
@@ -209,7 +209,7 @@ pub shape_of-log : goal.shape_of-log
 shape_of-log c = c.loop-from.invariant.sound.good.words.log ∙ sym (begins (goal.at.shape_of-log c).Start).good.words.log
 
 pub returns : goal.returns
-returns c = (plays-reached c.loop-from.invariant c.loop-from-test.false, plays_end c.loop-from.invariant c.loop-from-test.false)
+returns c = (plays_reached c.loop-from.invariant c.loop-from-test.false, plays_end c.loop-from.invariant c.loop-from-test.false)
 
 pub bounds-slots-k : goal.bounds-slots-k
 bounds-slots-k c = place_below c.loop-from.invariant.sound.good.whole c.place-k.ensures

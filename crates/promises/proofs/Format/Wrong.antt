@@ -8,7 +8,7 @@ use lib.ListN.{length, get_or, drop, take, replicate}
 use lib.Seq.{sets}
 use Rattle.table.specs.Seek.{seek}
 use Rattle.table.proofs.Computes.{apart}
-use Rattle.promises.proofs.Contracts.{Bytes, slice}
+use Rattle.promises.proofs.Contracts.{slice}
 use Rattle.format.specs.declared.Fields.{Fields}
 use Rattle.format.specs.declared.Flaw.{Flaw}
 use Rattle.format.specs.Schedule.{number_at, bytes_of, record_bytes, count, start_of, marked, version_of, torn, fields_at, members_at, entries_in, other_at, first_other, bad_at, first_bad, flaw, flaw_in, flaw_of}

@@ -14,7 +14,7 @@ use Rattle.table.specs.declared.Answer.TheVariants as answer
 use Rattle.read.specs.declared.Due.{Due}
 use Rattle.read.specs.declared.Due.TheVariants.{Nothing, Load, Restore}
 use Rattle.read.specs.declared.Guard.{Guard}
-use Rattle.read.specs.declared.Link.TheVariants.{Fresh, To}
+use Rattle.read.specs.declared.Link.TheVariants.{To}
 use Rattle.read.specs.declared.Slot.{Slot}
 use Rattle.read.specs.declared.Job.TheVariants.{Publish}
 use Rattle.read.specs.declared.Phase.{Phase}

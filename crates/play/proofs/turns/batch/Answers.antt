@@ -8,7 +8,7 @@ use borrow.Author.Rules.{rules}
 use Rattle.table.specs.declared.Search.TheVariants.{Halve}
 use Rattle.write.specs.Begins.{batch_room}
 use Rattle.write.proofs.Rising.{append_rising}
-use Rattle.play.proofs.Gathered.{batch-taken}
+use Rattle.play.proofs.Gathered.{batch_taken}
 use Rattle.play.proofs.turns.batch.Goals as goal
 
 pub gather-requires : goal.gather-requires
@@ -26,7 +26,7 @@ returns c =
     let t = c.requires in
     c.extend_by.ensures
     ∙ append_rising Halve a.c a.s 0 a.left.now a.right.now a.log.now t.1 t.2 _
-    ∙ batch-taken a.c a.s 0 a.left.now a.right.now a.log.now a.schedule.now a.at a.n c.fewer-k.ensures c.gather.ensures
+    ∙ batch_taken a.c a.s 0 a.left.now a.right.now a.log.now a.schedule.now a.at a.n c.fewer-k.ensures c.gather.ensures
 
 pub overflow_mul-ops : goal.overflow_mul-ops
 overflow_mul-ops c = omega (arith, c.fewer-k.ensures)
