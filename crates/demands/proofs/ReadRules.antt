@@ -12,7 +12,7 @@ use Rattle.table.specs.Copy.{zeros, fits, look_rule, used_rule}
 use Rattle.table.specs.Many.{told_all, look_all_rule}
 use Rattle.table.proofs.Split.{split}
 use Rattle.table.proofs.Cases.{fits_fit, used_fit, used_unfit}
-use Rattle.table.proofs.Many.{look-all-view}
+use Rattle.table.proofs.Many.{look_all_view}
 use Rattle.read.specs.declared.Verdict.{Verdict}
 use Rattle.read.specs.declared.Verdict.TheVariants.{Admitted, Refused}
 use Rattle.read.specs.declared.State.{State}
@@ -54,23 +54,23 @@ module _ (i j key : ℕ) (w : World) where
   s = slot_at w.state i
 
   -- a look up, and the copy that it is made in, by what both are judged on: words and control part; the slot's number; the slot
-  abbrev madeBy : Verdict → Made
-  madeBy u =
+  abbrev made_by : Verdict → Made
+  made_by u =
       elim u [ Admitted ↦ handled w.state.control i s (LookUp j key) w.left w.right | Refused a ↦ made_of w.state.control a 0 s ]
 
-  abbrev replyBy : Verdict → Bool → Verdict → Reply
-  replyBy v b u =
+  abbrev reply_by : Verdict → Bool → Verdict → Reply
+  reply_by v b u =
       elim v [
         | Admitted ↦
             elim b [
-              | true ↦ reply_of i (madeBy u) w.state
+              | true ↦ reply_of i (made_by u) w.state
               | false ↦ refusal answer.NoSlot w.state
             ]
         | Refused a ↦ refusal a w.state
       ]
 
-  abbrev shownBy : Verdict → Bool → Verdict → List ℕ
-  shownBy v b u =
+  abbrev shown_by : Verdict → Bool → Verdict → List ℕ
+  shown_by v b u =
       elim v [
         | Admitted ↦ elim b [ true ↦ elim u [ Admitted ↦ guarded_copy s.guards j w.left w.right | Refused a ↦ [] ] | false ↦ [] ]
         | Refused a ↦ []
@@ -85,12 +85,12 @@ module _ (i j key : ℕ) (w : World) where
   unfolding look_rule
   unseen o e = record { counts = e; refused = λ _. refl }
 
-  joined_by : (v : Verdict) (b : Bool) (u : Verdict) → Joined (replyBy v b u) (shownBy v b u)
+  joined_by : (v : Verdict) (b : Bool) (u : Verdict) → Joined (reply_by v b u) (shown_by v b u)
   unfolding handled_by
   joined_by Admitted true Admitted = record { counts = refl; refused = λ n. absurd (n refl) }
-  joined_by Admitted true (Refused a) = unseen (replyBy Admitted true (Refused a)) refl
-  joined_by Admitted false u = unseen (replyBy Admitted false u) refl
-  joined_by (Refused a) b u = unseen (replyBy (Refused a) b u) refl
+  joined_by Admitted true (Refused a) = unseen (reply_by Admitted true (Refused a)) refl
+  joined_by Admitted false u = unseen (reply_by Admitted false u) refl
+  joined_by (Refused a) b u = unseen (reply_by (Refused a) b u) refl
 
   -- no sign looks at the key
   any_key : (own : Bool) → handle_signs w.state.control own s (LookUp j key) ≡ handle_signs w.state.control own s (LookUp j 0)
@@ -102,7 +102,7 @@ module _ (i j key : ℕ) (w : World) where
   joined =
       let v = judged w.state w.left w.right w.log in
       let signs = handle_signs w.state.control (eqb i 0) s (LookUp j key) in
-      subst₂ (λ (o : Lent Reply) (u : List Sign). Joined o.made (shownBy v (ltb i slot_count) (smallest u)))
+      subst₂ (λ (o : Lent Reply) (u : List Sign). Joined o.made (shown_by v (ltb i slot_count) (smallest u)))
       (sym (one_handle i (LookUp j key) w.state w.left w.right w.log)) (any_key (eqb i 0))
       (joined_by v (ltb i slot_count) (smallest signs))
 
@@ -116,15 +116,15 @@ module _ (i j key : ℕ) (w : World) where
   one_view n = ap used_rule (joined.refused n)
 
 -- of each of many keys in a view is told what `pair_rule` hands back of it, which is what a look up in the copy that is shown finds
-pub one-all :
+pub one_all :
     (i j : ℕ) (w : World) (keys out : List ℕ) → length out ≡ 2 * length keys →
     view_rule i j w.left w.right w.log w.state ≢ [] →
     look_all_rule (view_rule i j w.left w.right w.log w.state) keys out
     ≡ record { answer = answer.Done; copy = told_all keys (shown i j w) }
-one-all i j w keys out e n =
+one_all i j w keys out e n =
     let x = shown i j w in
     split (fits x)
-    (λ f. ap (λ (v : List ℕ). look_all_rule v keys out) (used_fit x f) ∙ look-all-view x (fits_fit x f) keys out e)
+    (λ f. ap (λ (v : List ℕ). look_all_rule v keys out) (used_fit x f) ∙ look_all_view x (fits_fit x f) keys out e)
     (λ f. absurd (n (used_unfit x f)))
 
 -- ---- start

@@ -27,15 +27,15 @@ number_split (suc m) n s at =
     ap (λ (k : ℕ). k * x) (pow-suc 256 m ∙ mul_comm (256 ^ m) 256) ∙ mul_assoc 256 (256 ^ m) x in
     omega (arith, e, d, f)
 
-pub number-joined :
+pub number_joined :
     (m n : ℕ) (s : List ℕ) (at : ℕ) {x y : ℕ} → x ≡ number_at m s at → y ≡ number_at n s (at + m) → x + 256 ^ m * y ≡ number_at (m + n) s at
-number-joined m n s at p q = (λ i. p i + 256 ^ m * q i) ∙ sym (number_split m n s at)
+number_joined m n s at p q = (λ i. p i + 256 ^ m * q i) ∙ sym (number_split m n s at)
 
 -- n - i bytes still to be stored: the lowest, then the rest
-pub store-next :
+pub store_next :
     (n i v at : ℕ) (l : List ℕ) → i < n →
     sets l (at + i) (bytes_of (n - i) v) ≡ sets (set l (at + i) (v % 256)) (at + (i + 1)) (bytes_of (n - (i + 1)) (v / 256))
-store-next n i v at l h =
+store_next n i v at l h =
     let p : n - i ≡ suc (n - (i + 1)) = omega arith in
     let q : suc (at + i) ≡ at + (i + 1) = omega arith in
     ap (λ (k : ℕ). sets l (at + i) (bytes_of k v)) p

@@ -10,7 +10,7 @@ use Rattle.table.proofs.Split.{around}
 use Rattle.table.proofs.Seek.{seek_unique, seek_none}
 use Rattle.format.specs.Schedule.{head_bytes, record_bytes, count, start_of, members_at, units_from, entries_in, bad_at, first_bad, flaw, flaw_in}
 use Rattle.format.proofs.Records.{Good, not_bad_good, lone_good, flaw_bad, flaw_none}
-use Rattle.format.proofs.Units.{units-next}
+use Rattle.format.proofs.Units.{units_next}
 
 pub record Checks (s : List ℕ) (inside i : ℕ) : Type 0 where
   pub upto : i ≤ count s
@@ -63,7 +63,7 @@ module _ (s : List ℕ) {inside i : ℕ} (c : Checks s inside i) where
           let next : start_of i + record_bytes * suc m ≡ start_of (n + 1) = omega arith in
           let left : r - m ≡ count s - (n + 1) = omega arith in
           let units : units_from s (start_of i) 0 (count s - i) ≡ start_of i ∷ units_from s (start_of (n + 1)) 0 (count s - (n + 1)) =
-          ap (units_from s (start_of i) 0) some ∙ units-next s (start_of i) r m (ap (◌-◌ r) e)
+          ap (units_from s (start_of i) 0) some ∙ units_next s (start_of i) r m (ap (◌-◌ r) e)
           ∙ (λ j. start_of i ∷ units_from s (next j) 0 (left j)) in
           record {
             upto = omega (arith, good.behind);

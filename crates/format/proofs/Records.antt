@@ -92,10 +92,10 @@ module _ (s : List ℕ) (i : ℕ) where
       }
 
   -- what speaks against a bad one
-  pub bad-cases :
+  pub bad_cases :
       {C : Type 0} → bad_at s i ≡ true → (call < 1 → C) → (15 < call → C) → (count s - i - 1 < members → C) →
       (members ≤ count s - i - 1 → (j : ℕ) → j < members → (get_or s (start_of (i + 1 + j)) 0 ≡ 8 → ⊥) → C) → C
-  bad-cases b low high few other =
+  bad_cases b low high few other =
       under call 1 low
       (λ l.
       under 15 call high

@@ -28,9 +28,9 @@ module _ (s : List ℕ) where
       (λ l. omega arith)
 
   -- k: how many of the n records behind it belong to it, all that it names or all that there are
-  pub units-next :
+  pub units_next :
       (at n k : ℕ) → n - k ≡ n - members_at s at → units_from s at 0 (suc n) ≡ at ∷ units_from s (at + record_bytes * suc k) 0 (n - k)
-  units-next at n k e =
+  units_next at n k e =
       let m = members_at s at in
       ap (◌∷◌ at) (
       units_skip (at + record_bytes) m n

@@ -1,6 +1,7 @@
 // The calls on the machine: each is given the whole state and all three lent slices, trusts none of them, and is refused with
 // nothing changed, or made. `read` and `write` have the parts, for whoever holds a state that is known to be whole.
 #![tactic(auto)]
+
 mod judge;
 mod reads;
 mod runs;

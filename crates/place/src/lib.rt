@@ -1,6 +1,6 @@
-// A release that changes a handle's own record in place. A reference to a record is outside what the borrow checker covers, so
-// `release` and `leave` are proved by walks of their code, by hand, and are thin: the work is done by value, beneath them.
+// A release that changes a handle's own record in place. `release` and `leave` are thin: the work is done by value, beneath them.
 #![tactic(auto)]
+
 ghost use Rattle.std.specs.Prelude.{◌≡◌};
 ghost use Rattle.place.specs.Release.{release_rule};
 
@@ -8,7 +8,7 @@ use read::{Slot, guards};
 use table::Answer;
 
 // What a release answers, and the record after it.
-#[derive(Drop)]
+#[derive(Clone, Copy)]
 pub struct Released {
     pub answer: Answer,
     pub slot: Slot,
@@ -48,7 +48,7 @@ pub fn release(s: &mut Slot, guard: usize) -> Answer
     r.answer
 }
 
-// The same on a record that its caller keeps: it lends it to `release`, and has it back. Whoever calls this needs no walk.
+// The same on a record that its caller keeps: it lends it to `release`, and has it back.
 pub fn leave(mut s: Slot, guard: usize) -> Released
     ensures { result ≡ release_rule guard s }
 {

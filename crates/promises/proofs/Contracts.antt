@@ -5,9 +5,9 @@ use mathlib.Core.Path.{◌≡◌}
 use mathlib.Core.Bool.{Bool, true, ◌&&◌}
 use mathlib.Core.List.{List, [], ◌∷◌}
 use lib.Dec.{ltb}
-use mir.Val.{Val, Vals, vunit, vbool, vint, vfloat, vptr, vstruct, vnil, vcons, bits, has_ty}
+use mir.Val.{Val, Vals, vunit, vbool, vint, vfloat, vptr, vcode, vstruct, vnil, vcons, bits, has_ty}
 use contract.Lifetimes.{Lfts}
-use denote.Ref.{Bor}
+use denote.Ref.{Bor, MutBor}
 use borrow.Fn.Kinds.{ParamKind, Dens}
 
 -- ---- the values that a type has
@@ -20,6 +20,7 @@ abbrev mutual
   ranged (vint w n) = ltb n (2 ^ bits w)
   ranged (vfloat f x) = true
   ranged (vptr k o) = true
+  ranged (vcode k) = true
   ranged (vstruct vs) = all_ranged vs
 
   pub all_ranged : Vals → Bool
@@ -60,6 +61,13 @@ Ref = Bor (List ℕ)
 abbrev pub ref : List ℕ → Ref
 ref w = record { ref_ptr = (0, 0); now = w }
 
+-- the same, to be changed: it has a name besides, under which what it refers to is kept, and no contract says which
+abbrev pub MutRef : Type 0
+MutRef = MutBor (List ℕ)
+
+abbrev pub mut_ref : List ℕ → MutRef
+mut_ref w = record { ref_ptr = (0, 0); ghost_name = 0; now = w }
+
 -- the two copies and the log, as a machine is lent them
 abbrev pub Refs : Type 0
 Refs = Ref × (Ref × (Ref × Unit {0}))
@@ -69,6 +77,15 @@ refs l r g = (ref l, (ref r, (ref g, tt)))
 
 abbrev pub lends : Words → Words → Words → Refs
 lends l r g = refs l.list r.list g.list
+
+abbrev pub MutRefs : Type 0
+MutRefs = MutRef × (MutRef × (MutRef × Unit {0}))
+
+abbrev pub mut_refs : List ℕ → List ℕ → List ℕ → MutRefs
+mut_refs l r g = (mut_ref l, (mut_ref r, (mut_ref g, tt)))
+
+abbrev pub mut_lends : Words → Words → Words → MutRefs
+mut_lends l r g = mut_refs l.list r.list g.list
 
 abbrev pub κ₁ : Lfts 1
 κ₁ = ([], tt)

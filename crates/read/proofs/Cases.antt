@@ -75,17 +75,17 @@ module _ (c : Control) (d : Due) (s : Slot) where
   pub loaded_null : c.null ≡ true → loaded c d s ≡ made_of c answer.None 0 (with_due s.epoch d s)
   loaded_null e = rw (e, loaded)
 
-  pub loaded-side :
+  pub loaded_side :
       c.null ≡ false → loaded c d s ≡ made_of c answer.Done (first_guard false s.guards) (guarded c.right s)
-  loaded-side e = rw (e, loaded)
+  loaded_side e = rw (e, loaded)
 
 module _ (c : Control) (s : Slot) where
   pub entered_inside : any_open s.guards ≡ true → entered c s ≡ loaded c s.due s
   entered_inside e = rw (e, entered)
 
-  pub entered-outside :
+  pub entered_outside :
       any_open s.guards ≡ false → entered c s ≡ made_of c answer.Done 0 (with_due (bumped s.epoch) Load s)
-  entered-outside e = rw (e, entered)
+  entered_outside e = rw (e, entered)
 
 -- by whether a guard stays open behind guard j, which is shut by x
 module _ (j : ℕ) (s : Slot) {x : Guard} {gs : List Guard} {b : Bool} (e : x ≡ shut) (f : gs ≡ put_guard j x s.guards) (q : b ≡ any_open gs) where
@@ -124,16 +124,16 @@ module _ (c : Control) (l r g : List ℕ) where
   unfolding glanced
   glanced_length e = rw (e, glanced)
 
-  pub glanced-broken :
+  pub glanced_broken :
       sized l r g ≡ true → (leb (entries l) pairs && (leb (entries r) pairs && whole_control c)) ≡ false →
       glanced c l r g ≡ Refused answer.Broken
   unfolding glanced
-  glanced-broken e f = rw (e, f, glanced)
+  glanced_broken e f = rw (e, f, glanced)
 
-  pub glanced-whole :
+  pub glanced_whole :
       sized l r g ≡ true → (leb (entries l) pairs && (leb (entries r) pairs && whole_control c)) ≡ true → glanced c l r g ≡ Admitted
   unfolding glanced
-  glanced-whole e f = rw (e, f, glanced)
+  glanced_whole e f = rw (e, f, glanced)
 
   -- the log has room for the operations that the control part counts
   pub glanced_room : glanced c l r g ≡ Admitted → 3 * c.length ≤ length g
@@ -141,7 +141,7 @@ module _ (c : Control) (l r g : List ℕ) where
       split (sized l r g)
       (λ s. split (leb (entries l) pairs && (leb (entries r) pairs && whole_control c))
       (λ w. omega (arith, sized_lengths l r g s, whole_length c (both (leb (entries r) pairs) (whole_control c) (both (leb (entries l) pairs) _ w).1).1))
-      (λ w. refused_not (sym (glanced-broken s w) ∙ e)))
+      (λ w. refused_not (sym (glanced_broken s w) ∙ e)))
       (λ s. refused_not (sym (glanced_length s) ∙ e))
 
 module _ (st : State) (l r g : List ℕ) where
@@ -150,10 +150,10 @@ module _ (st : State) (l r g : List ℕ) where
   judged_refused a e = rw (e, judged)
 
   module _ (e : glanced st.control l r g ≡ Admitted) where
-    pub judged-broken :
+    pub judged_broken :
         (leb st.control.length (first_unlawful st.control.length g) && orderly st) ≡ false → judged st l r g ≡ Refused answer.Broken
     unfolding judged
-    judged-broken f = rw (e, f, judged)
+    judged_broken f = rw (e, f, judged)
 
     pub judged_whole : (leb st.control.length (first_unlawful st.control.length g) && orderly st) ≡ true → judged st l r g ≡ Admitted
     unfolding judged
@@ -193,10 +193,10 @@ module _ (look : ℕ → List ℕ → List ℕ) (c : Control) (i : ℕ) (s : Slo
   handle_made e = rw (e, handle_by)
 
 -- where a call is refused, what was made is put back as it was
-pub reply-back :
+pub reply_back :
     (i : ℕ) (a : Answer) (v : ℕ) (st : State) →
     reply_of i (made_of st.control a v (slot_at st i)) st ≡ record { answer = a; value = v; state = st }
-reply-back i a v st = rw (set-get_or st.slots i no_slot)
+reply_back i a v st = rw (set-get_or st.slots i no_slot)
 
 module _ (i : ℕ) (h : Handle) (l r : List ℕ) (st : State) where
   pub reply_past : slot_count ≤ i → handle_reply i h l r st ≡ refusal answer.NoSlot st
@@ -221,11 +221,11 @@ module _ (c : Control) (s : Slot) where
   unfolding create_on
   create_refused a e = rw (e, create_on)
 
-  pub create-made :
+  pub create_made :
       smallest (create_signs c) ≡ Admitted →
       create_on c s ≡ record { answer = answer.Done; value = c.free; slot = new_slot; free = behind c.free s.link }
   unfolding create_on
-  create-made e = rw (e, create_on)
+  create_made e = rw (e, create_on)
 
 -- where it is made, the slot is there
 pub create_room : (c : Control) → smallest (create_signs c) ≡ Admitted → c.free < slot_count
@@ -246,15 +246,15 @@ module _ (i j : ℕ) (l r : List ℕ) (st : State) where
   pub guard_past : slot_count ≤ i → through_guard i j l r st ≡ []
   guard_past p = rw (le-ltb i slot_count p, through_guard)
 
-  pub guard-refused :
+  pub guard_refused :
       i < slot_count → (a : Answer) → smallest (handle_signs st.control (eqb i 0) (slot_at st i) (LookUp j 0)) ≡ Refused a →
       through_guard i j l r st ≡ []
-  guard-refused p a e = rw (lt-ltb i slot_count p, e, through_guard)
+  guard_refused p a e = rw (lt-ltb i slot_count p, e, through_guard)
 
-  pub guard-shown :
+  pub guard_shown :
       i < slot_count → smallest (handle_signs st.control (eqb i 0) (slot_at st i) (LookUp j 0)) ≡ Admitted →
       through_guard i j l r st ≡ guarded_copy (slot_at st i).guards j l r
-  guard-shown p e = rw (lt-ltb i slot_count p, e, through_guard)
+  guard_shown p e = rw (lt-ltb i slot_count p, e, through_guard)
 
   module _ (g : List ℕ) where
     pub through_refused : (a : Answer) → judged st l r g ≡ Refused a → through_rule i j l r g st ≡ []
@@ -272,8 +272,8 @@ module _ (l r g : List ℕ) where
   unfolding start_rule
   start_refused e = rw (e, start_rule)
 
-  pub start-made :
+  pub start_made :
       sized l r g ≡ true →
       start_rule l r g ≡ lent (record { answer = answer.Done; value = 0; state = fresh }) (zeros l) (zeros r) (zeros g)
   unfolding start_rule
-  start-made e = rw (e, start_rule)
+  start_made e = rw (e, start_rule)

@@ -139,17 +139,17 @@ pub record Alike (ss ts : List Slot) : Type 0 where
   pub used : (i : ℕ) → (at ts i).used ≡ (at ss i).used
   pub link : (i : ℕ) → (at ts i).link ≡ (at ss i).link
 
-part-set :
+part_set :
     {A : Type 0} (f : Slot → A) (ss : List Slot) (i : ℕ) (s : Slot) → f s ≡ f (at ss i) → (k : ℕ) → f (at (set ss i s) k) ≡ f (at ss k)
-part-set f [] i s h k = refl
-part-set f (x ∷ ss) zero s h zero = h
-part-set f (x ∷ ss) zero s h (suc k) = refl
-part-set f (x ∷ ss) (suc i) s h zero = refl
-part-set f (x ∷ ss) (suc i) s h (suc k) = part-set f ss i s h k
+part_set f [] i s h k = refl
+part_set f (x ∷ ss) zero s h zero = h
+part_set f (x ∷ ss) zero s h (suc k) = refl
+part_set f (x ∷ ss) (suc i) s h zero = refl
+part_set f (x ∷ ss) (suc i) s h (suc k) = part_set f ss i s h k
 
 pub alike_set : (ss : List Slot) (i : ℕ) (s : Slot) → s.used ≡ (at ss i).used → s.link ≡ (at ss i).link → Alike ss (set ss i s)
 alike_set ss i s u l =
-    record { used = part-set (λ (x : Slot). x.used) ss i s u; link = part-set (λ (x : Slot). x.link) ss i s l }
+    record { used = part_set (λ (x : Slot). x.used) ss i s u; link = part_set (λ (x : Slot). x.link) ss i s l }
 
 pub free_alike : (n : ℕ) (ss ts : List Slot) → ((i : ℕ) → (at ts i).used ≡ (at ss i).used) → free_below n ts ≡ free_below n ss
 free_alike zero ss ts f = free_none ts ∙ sym (free_none ss)
@@ -158,7 +158,7 @@ free_alike (suc n) ss ts f =
 
 pub free_same :
     (n : ℕ) (ss : List Slot) (i : ℕ) (s : Slot) → s.used ≡ (at ss i).used → free_below n (set ss i s) ≡ free_below n ss
-free_same n ss i s u = free_alike n ss (set ss i s) (part-set (λ (x : Slot). x.used) ss i s u)
+free_same n ss i s u = free_alike n ss (set ss i s) (part_set (λ (x : Slot). x.used) ss i s u)
 
 pub walk_alike : (n : ℕ) (ss ts : List Slot) → Alike ss ts → (k : ℕ) → walk n ts k ≡ walk n ss k
 unfolding walk
@@ -178,11 +178,11 @@ free_above (suc n) ss i s h =
     ∙ (λ j. vacancy (o j).used + free_above n ss i s (omega arith) j)
     ∙ sym (free_turn n ss)
 
-pub free-set :
+pub free_set :
     (n : ℕ) (ss : List Slot) (i : ℕ) (s : Slot) → i < length ss → i < n →
     free_below n (set ss i s) + vacancy (at ss i).used ≡ free_below n ss + vacancy s.used
-free-set zero ss i s b h = absurd (omega arith)
-free-set (suc n) ss i s b h = under i n (λ l. before l (free-set n ss i s b l)) (λ l. here (omega arith))
+free_set zero ss i s b h = absurd (omega arith)
+free_set (suc n) ss i s b h = under i n (λ l. before l (free_set n ss i s b l)) (λ l. here (omega arith))
   where
     before :
         i < n → free_below n (set ss i s) + vacancy (at ss i).used ≡ free_below n ss + vacancy s.used →
@@ -254,23 +254,23 @@ ordered_alike ss ts a k =
 
 module _ (ss : List Slot) (all : length ss ≡ slot_count) where
   -- the first slot is handed out
-  pub ordered-popped :
+  pub ordered_popped :
       (k : ℕ) (s : Slot) → ordered ss k ≡ true → k < slot_count → s.used ≡ true → ordered (set ss k s) (behind k (at ss k).link) ≡ true
-  ordered-popped k s o l u =
+  ordered_popped k s o l u =
       by_first ss k (λ e q. absurd (omega arith))
       (λ n e h.
       let m : free_below slot_count (set ss k s) ≡ n =
-      omega (arith, free-set slot_count ss k s (omega arith) l, ap vacancy u, ap vacancy (turn n ss k h).vacant) in
+      omega (arith, free_set slot_count ss k s (omega arith) l, ap vacancy u, ap vacancy (turn n ss k h).vacant) in
       ap (λ (m : ℕ). walk m (set ss k s) (behind k (at ss k).link)) m ∙ popped n ss k s h)
       o
 
   -- one in use is freed
-  pub ordered-pushed :
+  pub ordered_pushed :
       (i k : ℕ) (s : Slot) → ordered ss k ≡ true → i < slot_count → (at ss i).used ≡ true → ordered (set ss i (freed k s)) i ≡ true
-  ordered-pushed i k s o l u =
+  ordered_pushed i k s o l u =
       let n = free_below slot_count ss in
       let m : free_below slot_count (set ss i (freed k s)) ≡ suc n =
-      omega (arith, free-set slot_count ss i (freed k s) (omega arith) l, ap vacancy u) in
+      omega (arith, free_set slot_count ss i (freed k s) (omega arith) l, ap vacancy u) in
       ap (λ (m : ℕ). walk m (set ss i (freed k s)) i) m ∙ pushed n ss i k s (omega arith) l u o
 
 -- ---- all come
@@ -281,7 +281,7 @@ walk_bound zero ss k e h = omega arith
 walk_bound (suc n) ss k e h =
     let t = turn n ss k h in
     omega
-    (arith, walk_bound n (set ss k new_slot) _ (length-set ss k new_slot ∙ e) (popped n ss k new_slot h), free-set slot_count ss k new_slot (omega arith) t.within, ap vacancy t.vacant)
+    (arith, walk_bound n (set ss k new_slot) _ (length-set ss k new_slot ∙ e) (popped n ss k new_slot h), free_set slot_count ss k new_slot (omega arith) t.within, ap vacancy t.vacant)
 
 meets : (n : ℕ) (ss : List Slot) (k i : ℕ) → ((j : ℕ) × (j < n) × (after j ss k ≡ i)) ⊎ ((j : ℕ) → j < n → after j ss k ≢ i)
 meets zero ss k i = inr (λ j l. absurd (omega arith))
@@ -295,12 +295,12 @@ meets (suc n) ss k i = elim (ℕ_discrete k i) [
     none ne f (suc j) l = f j (omega arith)
 
 -- each that is free
-pub all-met :
+pub all_met :
     (ss : List Slot) (k i : ℕ) → length ss ≡ slot_count → ordered ss k ≡ true → i < slot_count → (at ss i).used ≡ false →
     (j : ℕ) × (j < free_below slot_count ss) × (after j ss k ≡ i)
-all-met ss k i e o l u =
+all_met ss k i e o l u =
     ⊎_elim (λ m. m)
-    (λ f. absurd (omega (arith, free-set slot_count ss i new_slot (omega arith) l, ap vacancy u, walk_bound n (set ss i new_slot) k (length-set ss i new_slot ∙ e) (apart n ss k i new_slot f ∙ o))))
+    (λ f. absurd (omega (arith, free_set slot_count ss i new_slot (omega arith) l, ap vacancy u, walk_bound n (set ss i new_slot) k (length-set ss i new_slot ∙ e) (apart n ss k i new_slot f ∙ o))))
     (meets n ss k i)
   where
     n : ℕ

@@ -7,19 +7,19 @@ abbrev pub every : {A : Type 0} → (ℕ → A → Bool) → ℕ → List A → 
 every f i [] = true
 every f i (x ∷ xs) = f i x && every f (suc i) xs
 
-every-at :
+every_at :
     {A : Type 0} (f : ℕ → A → Bool) (d : A) (i : ℕ) (xs : List A) → every f i xs ≡ true →
     (k : ℕ) → k < length xs → f (i + k) (get_or xs k d) ≡ true
-every-at f d i [] t k h = absurd (omega arith)
-every-at f d i (x ∷ xs) t zero h =
+every_at f d i [] t k h = absurd (omega arith)
+every_at f d i (x ∷ xs) t zero h =
     let e : i + 0 ≡ i = omega arith in
     ap (λ (n : ℕ). f n x) e ∙ (both (f i x) (every f (suc i) xs) t).0
-every-at f d i (x ∷ xs) t (suc k) h =
+every_at f d i (x ∷ xs) t (suc k) h =
     let e : i + suc k ≡ suc i + k = omega arith in
-    ap (λ (n : ℕ). f n (get_or xs k d)) e ∙ every-at f d (suc i) xs (both (f i x) (every f (suc i) xs) t).1 k (omega arith)
+    ap (λ (n : ℕ). f n (get_or xs k d)) e ∙ every_at f d (suc i) xs (both (f i x) (every f (suc i) xs) t).1 k (omega arith)
 
 pub at_every :
     {A : Type 0} (f : ℕ → A → Bool) (d : A) (xs : List A) → every f 0 xs ≡ true → (k : ℕ) → k < length xs → f k (get_or xs k d) ≡ true
 at_every f d xs t k h =
     let e : 0 + k ≡ k = omega arith in
-    ap (λ (n : ℕ). f n (get_or xs k d)) (sym e) ∙ every-at f d 0 xs t k h
+    ap (λ (n : ℕ). f n (get_or xs k d)) (sym e) ∙ every_at f d 0 xs t k h

@@ -65,11 +65,11 @@ module _ (kind key amount : ℕ) where
 -- ---- the operations
 
 module _ (how : Search) (key amount : ℕ) (w : List ℕ) where
-  pub added-there :
+  pub added_there :
       has_key key w (find_by how key w) ≡ true →
       added_by how key amount w ≡ set w (2 * find_by how key w + 3) (grown (count_at w (find_by how key w)) amount)
   unfolding added_by
-  added-there h = rw (there key w how h, added_by, pair_there key w how h)
+  added_there h = rw (there key w how h, added_by, pair_there key w how h)
 
   pub added_absent : has_key key w (find_by how key w) ≡ false → added_by how key amount w ≡ placed_by how key amount w
   unfolding added_by
@@ -122,26 +122,26 @@ module _ (how : Search) (kind key amount : ℕ) (w : List ℕ) where
   unfolding apply_by
   apply_unfit h = rw (h, apply_by)
 
-  pub apply-unlawful :
+  pub apply_unlawful :
       fits w ≡ true → lawful kind key amount ≡ false → apply_by how kind key amount w ≡ record { answer = Operation; copy = w }
   unfolding apply_by
-  apply-unlawful h l = rw (h, l, apply_by)
+  apply_unlawful h l = rw (h, l, apply_by)
 
-  pub apply-made :
+  pub apply_made :
       fits w ≡ true → lawful kind key amount ≡ true →
       apply_by how kind key amount w ≡ record { answer = Done; copy = applied_by how kind key amount w }
   unfolding apply_by
-  apply-made h l = rw (h, l, apply_by)
+  apply_made h l = rw (h, l, apply_by)
 
 module _ (how : Search) (key : ℕ) (w : List ℕ) where
   pub look_unfit : fits w ≡ false → look_by how key w ≡ []
   unfolding look_by
   look_unfit h = rw (h, look_by)
 
-  pub look-there :
+  pub look_there :
       fits w ≡ true → has_key key w (find_by how key w) ≡ true → look_by how key w ≡ take 2 (drop (2 * find_by how key w + 2) w)
   unfolding look_by
-  look-there h l = rw (h, there key w how l, look_by, pair_there key w how l)
+  look_there h l = rw (h, there key w how l, look_by, pair_there key w how l)
 
   pub look_absent : fits w ≡ true → has_key key w (find_by how key w) ≡ false → look_by how key w ≡ []
   unfolding look_by

@@ -6,7 +6,7 @@ use lib.ListN.{length, set, take, drop, replicate}
 use lib.Seq.{get_or-drop}
 use Rattle.table.specs.Copy.{words, entries, spill, count_at, grown, inserted, removed, applied, Fit}
 use Rattle.table.specs.Order.{empty, Below}
-use Rattle.table.proofs.CopyFind.{added-cases, dropped_cases, applied_cases}
+use Rattle.table.proofs.CopyFind.{added_cases, dropped_cases, applied_cases}
 use Rattle.table.proofs.CopyWords.{get_d_zeros}
 
 -- ---- lists
@@ -61,7 +61,7 @@ pub below_applied : (kind key amount : ℕ) (w : List ℕ) → Fit w → key < 2
     → Below (2 ^ 64) (applied kind key amount w)
 below_applied kind key amount w fit k a f =
     applied_cases (Below b) key amount w kind
-    (added-cases (Below b) key amount w
+    (added_cases (Below b) key amount w
     (λ i p. below_set b pos w (2 * i + 3) (grown (count_at w i) amount) (omega arith) f)
     (λ i n p l. below_inserted b pos w f i key amount k a (omega arith))
     (λ n l. below_set b pos w 1 (grown (spill w) 1) (omega arith) f))

@@ -91,13 +91,13 @@ module _ (C : List ℕ → Type 0) (key amount : ℕ) (w : List ℕ) where
       (λ l. rw (l, placed_by) (g (place_of key w) (place_place_of key w) (ltb-true _ _ l)))
       (λ l. rw (l, placed_by) (h (ltb-false _ _ l)))
 
-  pub added-cases :
+  pub added_cases :
       ((i : ℕ) → Pair key i w → C (set w (2 * i + 3) (grown (count_at w i) amount)))
       → ((i : ℕ) → Absent key w → Place key i w → entries w < pairs → C (inserted i key amount w))
       → (Absent key w → pairs ≤ entries w → C (set w 1 (grown (spill w) 1)))
       → C (added key amount w)
   unfolding added_by
-  added-cases f g h =
+  added_cases f g h =
       split (present key w)
       (λ e. rw (e, added_by) (f (pair_of key w) (pair_present key w e)))
       (λ e. rw (e, added_by) (placed_cases (λ i. g i (absent_not_present key w e)) (h (absent_not_present key w e))))

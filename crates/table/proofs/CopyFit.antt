@@ -9,7 +9,7 @@ use lib.Seq.{get_or-set_other}
 use borrow.Author.Tests.{eq-eqb, le-leb}
 use Rattle.table.specs.Copy.{pairs, words, entries, added, dropped, zeros, applied, fits, Fit}
 use Rattle.table.specs.Order.{empty}
-use Rattle.table.proofs.CopyFind.{added-cases, dropped_cases, applied_cases}
+use Rattle.table.proofs.CopyFind.{added_cases, dropped_cases, applied_cases}
 use Rattle.table.proofs.CopyWords.{get_d_zeros, entries_inserted, entries_removed}
 use Rattle.table.proofs.CopyLength.{length_applied}
 
@@ -19,7 +19,7 @@ entries_set w x y h = get_or-set_other w x 0 y 0 (omega arith)
 
 within_added : (key amount : ℕ) (w : List ℕ) → Fit w → entries (added key amount w) ≤ pairs
 within_added key amount w fit =
-    added-cases (λ v. entries v ≤ pairs) key amount w
+    added_cases (λ v. entries v ≤ pairs) key amount w
     (λ i p. rw (entries_set w (2 * i + 3) _ (omega arith)) fit.within)
     (λ i a p l. rw (entries_inserted i key amount w p.upto (omega arith)) (omega arith))
     (λ a l. rw (entries_set w 1 _ (omega arith)) fit.within)

@@ -5,12 +5,12 @@ use mathlib.Core.List.{List}
 use native.Mathlib.Omega.{arith}
 use lib.ListN.{length, length-set, length-replicate}
 use Rattle.table.specs.Copy.{added, dropped, applied, Fit}
-use Rattle.table.proofs.CopyFind.{added-cases, dropped_cases, applied_cases}
+use Rattle.table.proofs.CopyFind.{added_cases, dropped_cases, applied_cases}
 use Rattle.table.proofs.CopyWords.{length_inserted, length_removed}
 
 pub length_added : (key amount : ℕ) (w : List ℕ) → Fit w → length (added key amount w) ≡ length w
 length_added key amount w fit =
-    added-cases (λ v. length v ≡ length w) key amount w
+    added_cases (λ v. length v ≡ length w) key amount w
     (λ i p. simp length-set)
     (λ i a p l. length_inserted i key amount w p.upto (omega arith))
     (λ a l. simp length-set)

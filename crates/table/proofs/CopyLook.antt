@@ -12,7 +12,7 @@ use Rattle.table.specs.Copy.{pairs, entries, spill, key_at, count_at, grown, add
 use Rattle.table.specs.Order.{Rising}
 use Rattle.table.proofs.Map.{found}
 use Rattle.table.proofs.Split.{split, around, under}
-use Rattle.table.proofs.CopyFind.{Pair, Absent, found_pair, found_absent, pair_of_pair, present_pair, not_present_absent, present_cases, added-cases, dropped_cases}
+use Rattle.table.proofs.CopyFind.{Pair, Absent, found_pair, found_absent, pair_of_pair, present_pair, not_present_absent, present_cases, added_cases, dropped_cases}
 use Rattle.table.proofs.CopyWords.{get_d_zeros}
 use Rattle.table.proofs.CopyFit.{fit_fits}
 use Rattle.table.proofs.CopyPairs.{Wider, wider_inserted, wider_removed, Recounted, recounted_set}
@@ -113,7 +113,7 @@ module _ (key amount : ℕ) (w : List ℕ) (fit : Fit w) where
   -- a present key's count grows
   pub found_added_present : (c : ℕ) → found key w ≡ some c → found key (added key amount w) ≡ some (grown c amount)
   found_added_present c e =
-      added-cases (λ v. found key v ≡ some (grown c amount)) key amount w
+      added_cases (λ v. found key v ≡ some (grown c amount)) key amount w
       (λ i p. recounted_here i key _ w _ (recounted_set i _ w (omega (arith, p.used))) p ∙ cc (found_pair key w i p))
       (λ i a p l. cc (found_absent key w a))
       (λ a l. cc (found_absent key w a))
@@ -121,7 +121,7 @@ module _ (key amount : ℕ) (w : List ℕ) (fit : Fit w) where
   -- an absent key has the amount, where there is room
   pub found_added_new : found key w ≡ none → entries w < pairs → found key (added key amount w) ≡ some amount
   found_added_new e r =
-      added-cases (λ v. found key v ≡ some amount) key amount w
+      added_cases (λ v. found key v ≡ some amount) key amount w
       (λ i p. cc (found_pair key w i p))
       (λ i a p l. wider_here i key amount w _ (wider_inserted i key amount w p.upto (omega arith)) a)
       (λ a l. absurd (omega arith))
@@ -130,14 +130,14 @@ module _ (key amount : ℕ) (w : List ℕ) (fit : Fit w) where
   pub found_added_full : found key w ≡ none → pairs ≤ entries w
       → (found key (added key amount w) ≡ none) × (spill (added key amount w) ≡ grown (spill w) 1)
   found_added_full e r =
-      added-cases (λ v. (found key v ≡ none) × (spill v ≡ grown (spill w) 1)) key amount w
+      added_cases (λ v. (found key v ≡ none) × (spill v ≡ grown (spill w) 1)) key amount w
       (λ i p. (cc (found_pair key w i p), cc (found_pair key w i p)))
       (λ i a p l. absurd (omega arith))
       (λ a l. (found_spilt w _ key ∙ e, get_or-set_same w 1 _ 0 (omega arith)))
 
   pub found_added_other : (k : ℕ) → k ≢ key → found k (added key amount w) ≡ found k w
   found_added_other k n =
-      added-cases (λ v. found k v ≡ found k w) key amount w
+      added_cases (λ v. found k v ≡ found k w) key amount w
       (λ i p. recounted_other i key _ w _ (recounted_set i _ w (omega (arith, p.used))) p k n)
       (λ i a p l. wider_other i key amount w _ (wider_inserted i key amount w p.upto (omega arith)) k n)
       (λ a l. found_spilt w _ k)

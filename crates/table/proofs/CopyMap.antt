@@ -14,7 +14,7 @@ use Rattle.table.specs.Copy.{pairs, words, entries, spill, count_at, grown, inse
 use Rattle.table.specs.Order.{empty, Rising, Tidy, Op, after}
 use Rattle.table.proofs.Map.{Map, put, add_map, drop_map, empty_map, applied_map, after_map, found, map_of}
 use Rattle.table.proofs.Split.{split}
-use Rattle.table.proofs.CopyFind.{Pair, Absent, Place, found_pair, found_absent, added-cases, dropped_cases}
+use Rattle.table.proofs.CopyFind.{Pair, Absent, Place, found_pair, found_absent, added_cases, dropped_cases}
 use Rattle.table.proofs.CopyWords.{get_d_zeros}
 use Rattle.table.proofs.CopyPairs.{Wider, wider_inserted, wider_removed, Recounted, recounted_set}
 use Rattle.table.proofs.CopyFit.{entries_set}
@@ -67,7 +67,7 @@ module _ (key amount : ℕ) (w : List ℕ) (fit : Fit w) where
       (map_path _ _ (found_spilt w (grown (spill w) 1)) (entries_set w 1 _ (omega arith)) (get_or-set_same w 1 _ 0 (omega arith))))
 
   pub map_added : map_of (added key amount w) ≡ add_map key amount (map_of w)
-  map_added = added-cases (λ v. map_of v ≡ add_map key amount (map_of w)) key amount w map_counted map_inserted map_full
+  map_added = added_cases (λ v. map_of v ≡ add_map key amount (map_of w)) key amount w map_counted map_inserted map_full
 
 module _ (key : ℕ) (w : List ℕ) (fit : Fit w) (r : Rising w) where
   map_removed : (i : ℕ) → Pair key i w → map_of (removed i w) ≡ drop_map key (map_of w)

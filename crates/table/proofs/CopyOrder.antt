@@ -9,7 +9,7 @@ use lib.Seq.{get_or-set_other}
 use Rattle.table.specs.Copy.{words, entries, spill, key_at, count_at, grown, inserted, removed, added, dropped, zeros, applied, Fit}
 use Rattle.table.specs.Order.{empty, Rising, Clear, Tidy, Op, after}
 use Rattle.table.proofs.Split.{around, under}
-use Rattle.table.proofs.CopyFind.{Absent, Place, added-cases, dropped_cases, applied_cases}
+use Rattle.table.proofs.CopyFind.{Absent, Place, added_cases, dropped_cases, applied_cases}
 use Rattle.table.proofs.CopyWords.{get_d_zeros, entries_inserted, inserted_behind, entries_removed, removed_left, removed_behind}
 use Rattle.table.proofs.CopyFit.{entries_set, fit_applied, fit_zeros, fit_empty}
 use Rattle.table.proofs.CopyPairs.{Wider, wider_inserted, wider_removed}
@@ -62,7 +62,7 @@ rising_narrower i key amount w v o r j k l b =
 
 rising_added : (key amount : ℕ) (w : List ℕ) → Fit w → Rising w → Rising (added key amount w)
 rising_added key amount w fit r =
-    added-cases Rising key amount w
+    added_cases Rising key amount w
     (λ i p. rising_set w (2 * i + 3) (grown (count_at w i) amount) (omega arith) (λ j. omega arith) r)
     (λ i a p l. rising_wider i key amount w _ (wider_inserted i key amount w p.upto (omega arith)) a p r)
     (λ a l. rising_set w 1 (grown (spill w) 1) (omega arith) (λ j. omega arith) r)
@@ -106,7 +106,7 @@ clear_removed i w u h c x b =
 
 clear_added : (key amount : ℕ) (w : List ℕ) → Fit w → Clear w → Clear (added key amount w)
 clear_added key amount w fit c =
-    added-cases Clear key amount w
+    added_cases Clear key amount w
     (λ i p. clear_set w (2 * i + 3) (grown (count_at w i) amount) (omega arith) (omega arith) c)
     (λ i a p l. clear_inserted i key amount w p.upto (omega arith) c)
     (λ a l. clear_set w 1 (grown (spill w) 1) (omega arith) (omega arith) c)

@@ -161,20 +161,20 @@ module _ (i : ℕ) (keys w out : List ℕ) (l : i < length keys) (room : 2 * i +
       same_len_mid (2 * i) (2 * i + 2 - 2 * i) out one
       (rw e (length_told (look_rule (get_or keys i 0) w) ∙ sym (length-take-le 2 (drop (2 * i) out) (simp length-drop (omega arith)))))
 
-  pub told-next :
+  pub told_next :
       told_all keys w ≡ take (2 * i) out ++ told_all (drop i keys) w →
       told_all keys w ≡ take (2 * (i + 1)) (put_mid (2 * i) (2 * i + 2 - 2 * i) out one) ++ told_all (drop (i + 1) keys) w
-  told-next h =
+  told_next h =
       let e : length (take (2 * i) out ++ one) ≡ 2 * (i + 1) =
       simp (length-append, length_told, length-take-le (2 * i) out (omega arith)) (omega arith) in
       rw (← append_assoc (take (2 * i) out) one _, take_at (take (2 * i) out ++ one) _ (2 * (i + 1)) e, add-one i, append_assoc (take (2 * i) out) one)
       (h ∙ ap (λ (ks : List ℕ). take (2 * i) out ++ told_all ks w) (drop-cons keys i 0 l))
 
 -- no key is left
-pub told-end :
+pub told_end :
     (i : ℕ) (keys w out : List ℕ) → length keys ≤ i → length out ≤ 2 * i → told_all keys w ≡ take (2 * i) out ++ told_all (drop i keys) w →
     out ≡ told_all keys w
-told-end i keys w out l n h = sym (h ∙ rw (take_all (2 * i) out n, drop_of_length-le keys l, append-nil))
+told_end i keys w out l n h = sym (h ∙ rw (take_all (2 * i) out n, drop_of_length-le keys l, append-nil))
 
 -- ---- the call, case by case
 
@@ -183,16 +183,16 @@ module _ (v keys out : List ℕ) where
   unfolding look_all_rule
   all_no_view h = rw (h, look_all_rule)
 
-  pub all-no-room :
+  pub all_no_room :
       is_view v ≡ true → eqb (length out) (2 * length keys) ≡ false → look_all_rule v keys out ≡ record { answer = Length; copy = out }
   unfolding look_all_rule
-  all-no-room h o = rw (h, o, look_all_rule)
+  all_no_room h o = rw (h, o, look_all_rule)
 
-  pub all-broken :
+  pub all_broken :
       is_view v ≡ true → eqb (length out) (2 * length keys) ≡ true → pairs < entries v →
       look_all_rule v keys out ≡ record { answer = Broken; copy = out }
   unfolding look_all_rule
-  all-broken h o b = rw (h, o, lt-leb (entries v) pairs b, look_all_rule)
+  all_broken h o b = rw (h, o, lt-leb (entries v) pairs b, look_all_rule)
 
   pub all_told :
       is_view v ≡ true → eqb (length out) (2 * length keys) ≡ true → entries v ≤ pairs →
@@ -240,9 +240,9 @@ module _ (w : List ℕ) (f : Fit w) where
   told_view (key ∷ keys) = λ k. told (look_view key k) ++ told_view keys k
 
   -- and so does each of many at once
-  pub look-all-view :
+  pub look_all_view :
       (keys out : List ℕ) → length out ≡ 2 * length keys → look_all_rule (used_of w) keys out ≡ record { answer = Done; copy = told_all keys w }
-  look-all-view keys out n =
+  look_all_view keys out n =
       all_told (used_of w) keys out used_view (eq-eqb (length out) (2 * length keys) n) (omega (arith, entries_used, f.within))
       ∙ ap (λ (l : List ℕ). record { answer = Done; copy = l }) (told_view keys)
 

@@ -29,10 +29,10 @@ pub over_next : (j : ℕ) (s p : List ℕ) → j < length s → j < length p →
 over_next j s p h l = rw add-one (over_suc j s p h l)
 
 -- the words that are copied stand g further on in the same list
-pub over-down :
+pub over_down :
     (j g : ℕ) (p : List ℕ) → g + j < length p →
     set (over j (drop g p) p) j (get_or (over j (drop g p) p) (g + j) 0) ≡ over (j + 1) (drop g p) p
-over-down j g p l =
+over_down j g p l =
     let h : j < length (drop g p) = simp length-drop (omega arith) in
     let e : g + j ≡ j + g = omega arith in
     let read : get_or (over j (drop g p) p) (g + j) 0 ≡ get_or (drop g p) j 0 =

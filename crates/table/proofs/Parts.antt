@@ -19,28 +19,28 @@ pub put_end : (at : ℕ) (w v : List ℕ) → put_mid at (length w - at) w v ≡
 put_end at w v = rw (drop_of_length-le (drop at w) {i = length w - at} (simp length-drop (omega arith)), append-nil)
 
 -- the part from pair i on has opened for a new pair
-pub inserted-part :
+pub inserted_part :
     (i key amount : ℕ) (w : List ℕ) →
     set (put_mid (2 * i + 2) (length w - (2 * i + 2)) w (opened (2 * (entries w - i)) key amount (mid_of (2 * i + 2) (length w - (2 * i + 2)) w))) 0 (entries w + 1)
     ≡ inserted i key amount w
-inserted-part i key amount w = rw (put_end (2 * i + 2) w, mid_end (2 * i + 2) w)
+inserted_part i key amount w = rw (put_end (2 * i + 2) w, mid_end (2 * i + 2) w)
 
 -- the part from pair i on has closed over it
-pub removed-part :
+pub removed_part :
     (i : ℕ) (w : List ℕ) → Fit w → i < entries w →
     set (put_mid (2 * i + 2) (length w - (2 * i + 2)) w (close_rule 2 (2 * (entries w - i - 1)) (mid_of (2 * i + 2) (length w - (2 * i + 2)) w))) 0 (entries w - 1)
     ≡ removed i w
-removed-part i w f l =
+removed_part i w f l =
     let room : 2 + 2 * (entries w - i - 1) ≤ length (drop (2 * i + 2) w) = simp length-drop (omega arith) in
     rw (put_end (2 * i + 2) w, mid_end (2 * i + 2) w, close_room 2 (2 * (entries w - i - 1)) (drop (2 * i + 2) w) room)
 
 -- ---- a part within
 
 -- m words have moved down by g, and the g words behind them are zeroed
-pub closed-part :
+pub closed_part :
     (g m : ℕ) (p : List ℕ) → g + m ≤ length p →
     put_mid m (m + g - m) (over m (drop g p) p) (zeros (mid_of m (m + g - m) (over m (drop g p) p))) ≡ closed g m p
-closed-part g m p h =
+closed_part g m p h =
     let e : m + g - m ≡ g = omega arith in
     let d : m + g ≡ g + m = omega arith in
     let k : length (take m (drop g p)) ≡ m = length-take-le m (drop g p) (simp length-drop (omega arith)) in

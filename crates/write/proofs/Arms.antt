@@ -41,81 +41,81 @@ module _ (how : Search) (c : Control) (s : Slot) (e : ℕ) (l r g : List ℕ) wh
   unfolding step_by
   step_idle q h = by_phase q (alone h)
 
-  pub step-begin :
+  pub step_begin :
       {m : Moved} {p : Phase} → c.phase ≡ Begin → p ≡ beginning c → m ≡ moved (at p c) s e → lent m l r g ≡ step_by how c.phase c s e l r g
   unfolding step_by
-  step-begin q x h = by_phase q (alone (h ∙ moved_by (goes x) refl refl))
+  step_begin q x h = by_phase q (alone (h ∙ moved_by (goes x) refl refl))
 
-  pub step-poll :
+  pub step_poll :
       {m : Moved} {k : ℕ} → c.phase ≡ Poll k → m ≡ poll_move (holds s e) k c s e → lent m l r g ≡ step_by how c.phase c s e l r g
   unfolding step_by
-  step-poll q h = by_phase q (alone h)
+  step_poll q h = by_phase q (alone h)
 
-  pub step-copy :
+  pub step_copy :
       {m : Moved} {p : Phase} {d : Control} {l' r' : List ℕ} →
       c.phase ≡ Copy → p ≡ draining c.swapped c.length → d ≡ copied c → m ≡ moved (at p d) s e →
       (l' ≡ of_left c.right (over (copy_of c.right l r)) l) × (r' ≡ of_right c.right (over (copy_of c.right l r)) r) →
       lent m l' r' g ≡ step_by how c.phase c s e l r g
   unfolding step_by
-  step-copy q x y h w = by_phase q (lent_by (h ∙ moved_by (at_by x y) refl refl) w.0 w.1 refl)
+  step_copy q x y h w = by_phase q (lent_by (h ∙ moved_by (at_by x y) refl refl) w.0 w.1 refl)
 
-  pub step-drain :
+  pub step_drain :
       {m : Moved} {d : Control} {l' r' g' : List ℕ} →
       c.phase ≡ Drain → d ≡ drained c → m ≡ moved d s e →
       (l' ≡ of_left c.right (log_applied_by how g 0) l) × (r' ≡ of_right c.right (log_applied_by how g 0) r) → g' ≡ unlogged c.length g →
       lent m l' r' g' ≡ step_by how c.phase c s e l r g
   unfolding step_by
-  step-drain q x h w y = by_phase q (lent_by (h ∙ moved_by x refl refl) w.0 w.1 y)
+  step_drain q x h w y = by_phase q (lent_by (h ∙ moved_by x refl refl) w.0 w.1 y)
 
-  pub step-keep :
+  pub step_keep :
       {m : Moved} {k : ℕ} {p : Phase} {l' r' : List ℕ} →
       c.phase ≡ Keep k → p ≡ keeping c.length (k + 1) → m ≡ moved (at p c) s e →
       (l' ≡ of_left c.right (log_applied_by how g k) l) × (r' ≡ of_right c.right (log_applied_by how g k) r) →
       lent m l' r' g ≡ step_by how c.phase c s e l r g
   unfolding step_by
-  step-keep q x h w = by_phase q (lent_by (h ∙ moved_by (goes x) refl refl) w.0 w.1 refl)
+  step_keep q x h w = by_phase q (lent_by (h ∙ moved_by (goes x) refl refl) w.0 w.1 refl)
 
-  pub step-swap :
+  pub step_swap :
       {m : Moved} {d : Control} →
       c.phase ≡ Swap → d ≡ swapped_over c → m ≡ moved (at (Snap 0) d) s e → lent m l r g ≡ step_by how c.phase c s e l r g
   unfolding step_by
-  step-swap q x h =
+  step_swap q x h =
       by_phase q (alone (h ∙ moved_by (at_by refl x ∙ snapping_here (swapped_over c) 0 (omega arith) refl) refl refl))
 
-  pub step-snap :
+  pub step_snap :
       {m : Moved} {k f : ℕ} {d : Control} →
       c.phase ≡ Snap k → d ≡ snapping c (k + 1) → f ≡ seen s e → m ≡ moved d s f → lent m l r g ≡ step_by how c.phase c s e l r g
   unfolding step_by
-  step-snap q x y h = by_phase q (alone (h ∙ moved_by x refl y))
+  step_snap q x y h = by_phase q (alone (h ∙ moved_by x refl y))
 
-  pub step-null :
+  pub step_null :
       {m : Moved} {d : Control} → c.phase ≡ Null → d ≡ nulled c → m ≡ moved (at Lock d) s e → lent m l r g ≡ step_by how c.phase c s e l r g
   unfolding step_by
-  step-null q x h = by_phase q (alone (h ∙ moved_by (at_by refl x) refl refl))
+  step_null q x h = by_phase q (alone (h ∙ moved_by (at_by refl x) refl refl))
 
   pub step_lock : {m : Moved} → c.phase ≡ Lock → m ≡ moved (at (LastSnap 0) c) s e → lent m l r g ≡ step_by how c.phase c s e l r g
   unfolding step_by
   step_lock q h = by_phase q (alone (h ∙ moved_by (goes (last_snapping_here 0 (omega arith))) refl refl))
 
-  pub step-last-snap :
+  pub step_last_snap :
       {m : Moved} {k f : ℕ} {p : Phase} →
       c.phase ≡ LastSnap k → p ≡ last_snapping (k + 1) → f ≡ seen s e → m ≡ moved (at p c) s f →
       lent m l r g ≡ step_by how c.phase c s e l r g
   unfolding step_by
-  step-last-snap q x y h = by_phase q (alone (h ∙ moved_by (goes x) refl y))
+  step_last_snap q x y h = by_phase q (alone (h ∙ moved_by (goes x) refl y))
 
-  pub step-last-poll :
+  pub step_last_poll :
       {m : Moved} {k : ℕ} → c.phase ≡ LastPoll k → m ≡ last_poll_move (holds s e) k c s e → lent m l r g ≡ step_by how c.phase c s e l r g
   unfolding step_by
-  step-last-poll q h = by_phase q (alone h)
+  step_last_poll q h = by_phase q (alone h)
 
-  pub step-finish :
+  pub step_finish :
       {m : Moved} {d : Control} {t : Slot} {l' r' g' : List ℕ} →
       c.phase ≡ Finish → d ≡ finished s c → t ≡ vacated c.free s → m ≡ moved (at Gone d) t e →
       (l' ≡ of_left c.right zeros l) × (r' ≡ of_right c.right zeros r) → g' ≡ zeros g →
       lent m l' r' g' ≡ step_by how c.phase c s e l r g
   unfolding step_by
-  step-finish q x y h w z = by_phase q (lent_by (h ∙ moved_by (at_by refl x) y refl) w.0 w.1 z)
+  step_finish q x y h w z = by_phase q (lent_by (h ∙ moved_by (at_by refl x) y refl) w.0 w.1 z)
 
   pub step_gone : {m : Moved} → c.phase ≡ Gone → m ≡ refused answer.Gone c s e → lent m l r g ≡ step_by how c.phase c s e l r g
   unfolding step_by

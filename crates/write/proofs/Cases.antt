@@ -24,7 +24,7 @@ use Rattle.write.specs.Steps.{at, keeping, draining, polled, polling, beginning,
 use Rattle.write.specs.Begins.{writer_signs, column_of, batch_room, all_lawful, lawful_batch, crowds, append_first, append_later, append_on, opened, open_on, append_by}
 use Rattle.write.specs.Runs.{after_step, ran_out, run_while}
 use Rattle.read.proofs.Verdicts.{Refusal, refused_mild, silent}
-use Rattle.write.proofs.Verdicts.{judging, append-idle, open-idle}
+use Rattle.write.proofs.Verdicts.{judging, append_idle, open_idle}
 
 -- another job; the phase stays, with its lock
 abbrev pub with_job : Job → Control → Control
@@ -44,10 +44,10 @@ module _ (P : Phase → Type 0) where
   pub draining_cases : (s n : ℕ) → (0 < s → P Drain) → (s ≡ 0 → P (keeping n 0)) → P (draining s n)
   draining_cases s n f g = below P 0 s f (λ h. g (omega arith))
 
-  pub polled-cases :
+  pub polled_cases :
       (c : Control) → (c.first ≡ true → P Swap) → (c.first ≡ false → c.second ≡ true → P Copy) →
       (c.first ≡ false → c.second ≡ false → P (draining c.swapped c.length)) → P (polled c)
-  polled-cases c f g h = by P c.first f (λ e. by P c.second (g e) (h e))
+  polled_cases c f g h = by P c.first f (λ e. by P c.second (g e) (h e))
 
   pub polling_cases : (c : Control) (k : ℕ) → (k < slot_count → P (Poll k)) → (slot_count ≤ k → P (polled c)) → P (polling c k)
   polling_cases c k f g = below P k slot_count f g
@@ -67,9 +67,9 @@ module _ (P : Phase → Type 0) where
   published_cases TakeFirst n i b u = below P 0 n (λ h. b) (λ h. u)
   published_cases TakeSecond n i b u = u
 
-pub snapping-cases :
+pub snapping_cases :
     (P : Control → Type 0) (c : Control) (k : ℕ) → (k < slot_count → P (at (Snap k) c)) → (slot_count ≤ k → P (ended c)) → P (snapping c k)
-snapping-cases P c k f g = below P k slot_count f g
+snapping_cases P c k f g = below P k slot_count f g
 
 -- ---- the calls that are made at once
 
@@ -92,17 +92,17 @@ module _ (P : Lent Moved → Type 0) (os : List Op) (c : Control) (s : Slot) (e 
         judging P (smallest signs)
         (λ v.
         let h : Appends os c =
-        record { idle = append-idle unlawful full c s v; lawfully = (both (leb (length os) batch_room) (all_lawful os) (not-false (lawful_batch os) (silent 5 signs v))).1 } in
+        record { idle = append_idle unlawful full c s v; lawfully = (both (leb (length os) batch_room) (all_lawful os) (not-false (lawful_batch os) (silent 5 signs v))).1 } in
         by P c.first (λ q. first q h) (λ q. later q (roomy (c.length + length os) c.first q (silent 11 signs v)) h))
         (λ a v. refusal a (refused_mild signs refl a v))
 
-pub open-cases :
+pub open_cases :
     (P : Moved → Type 0) (o : Opening) (c : Control) (s : Slot) (e : ℕ) → (c.phase ≡ Idle → P (opened o c s e)) →
     ((a : Answer) → Refusal a → P (refused a c s e)) → P (open_on o c s e)
 unfolding open_on
-open-cases P o c s e f g =
+open_cases P o c s e f g =
     let signs = writer_signs (column_of o) false false c s in
-    judging P (smallest signs) (λ v. f (open-idle o c s v)) (λ a v. g a (refused_mild signs refl a v))
+    judging P (smallest signs) (λ v. f (open_idle o c s v)) (λ a v. g a (refused_mild signs refl a v))
 
 -- ---- a run
 

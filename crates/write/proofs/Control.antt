@@ -16,7 +16,7 @@ use Rattle.write.specs.declared.Opening.{Opening}
 use Rattle.write.specs.declared.Opening.TheVariants as opening
 use Rattle.write.specs.Steps.{at, with_log, copied, swapped_over, nulled, finished, next_job, keeping, draining, polled, polling, beginning, published, last_polling, last_snapping, snapping, ended, holds, stopped, poll_move, last_poll_move, step_at, step_by}
 use Rattle.write.specs.Begins.{append_on, opened, open_on, taking}
-use Rattle.write.proofs.Cases.{with_job, append_cases, open-cases, keeping_cases, draining_cases, polled-cases, polling_cases, beginning_cases, last_polling_cases, last_snapping_cases, published_cases, snapping-cases}
+use Rattle.write.proofs.Cases.{with_job, append_cases, open_cases, keeping_cases, draining_cases, polled_cases, polling_cases, beginning_cases, last_polling_cases, last_snapping_cases, published_cases, snapping_cases}
 
 -- there is a slot: all that is asked of their number
 pub some_slot : 0 < slot_count
@@ -110,7 +110,7 @@ fits_draining s n = draining_cases (Fits n s false) s n (λ h. (h, refl)) (λ h.
 
 pub fits_polled : (c : Control) → Fits c.length c.swapped false (polled c)
 fits_polled c =
-    polled-cases (Fits c.length c.swapped false) c (λ e. (tt, refl)) (λ e f. (tt, refl))
+    polled_cases (Fits c.length c.swapped false) c (λ e. (tt, refl)) (λ e f. (tt, refl))
     (λ e f. fits_draining c.swapped c.length)
 
 pub fits_polling : (c : Control) (k : ℕ) → Fits c.length c.swapped false (polling c k)
@@ -132,10 +132,10 @@ pub fits_taking : (c : Control) → Fits c.length c.swapped false (taking c)
 fits_taking c = by (Fits c.length c.swapped false) (c.first || ltb 0 c.length) (λ e. (tt, refl)) (λ e. (tt, refl))
 
 -- another phase, whose lock `at` sets
-pub whole-at :
+pub whole_at :
     (p : Phase) (c : Control) {null : Bool} → c.length ≤ log_room → c.swapped ≤ c.length → c.null ≡ null →
     Fits c.length c.swapped null p → Whole (at p c)
-whole-at p c room within e f = record { room = room; within = within; placed = f.0; locked = refl; pointed = e ∙ f.1 }
+whole_at p c room within e f = record { room = room; within = within; placed = f.0; locked = refl; pointed = e ∙ f.1 }
 
 -- which slot is handed out next plays no part
 pub whole_free : (k : ℕ) {c : Control} → Whole c → Whole (with_free k c)
@@ -144,50 +144,50 @@ whole_free k w = record { room = w.room; within = w.within; placed = w.placed; l
 -- ---- a step
 
 whole_ended : (c : Control) → c.length ≤ log_room → c.swapped ≤ c.length → c.null ≡ false → Whole (ended c)
-whole_ended c room within e = whole-at (published c.job c.length) (with_job (next_job c.job) c) room within e
+whole_ended c room within e = whole_at (published c.job c.length) (with_job (next_job c.job) c) room within e
     (fits_published c.job c.length c.swapped)
 
 whole_snapping : (c : Control) (k : ℕ) → c.length ≤ log_room → c.swapped ≤ c.length → c.null ≡ false → Whole (snapping c k)
 whole_snapping c k room within e =
-    snapping-cases Whole c k (λ h. whole-at (Snap k) c room within e (h, refl)) (λ h. whole_ended c room within e)
+    snapping_cases Whole c k (λ h. whole_at (Snap k) c room within e (h, refl)) (λ h. whole_ended c room within e)
 
 module _ (c : Control) (w : Whole c) (s : Slot) (e : ℕ) where
   whole_stopped : (j : Job) → c.null ≡ false → Whole (stopped j c s e).control
   whole_stopped Publish z = w
-  whole_stopped Try z = whole-at Idle c w.room w.within z (tt, refl)
+  whole_stopped Try z = whole_at Idle c w.room w.within z (tt, refl)
   whole_stopped TakeFirst z = w
   whole_stopped TakeSecond z = w
 
   whole_poll : (held : Bool) (k : ℕ) → c.null ≡ false → Whole (poll_move held k c s e).control
   whole_poll true k z = whole_stopped c.job z
-  whole_poll false k z = whole-at (polling c (k + 1)) c w.room w.within z (fits_polling c (k + 1))
+  whole_poll false k z = whole_at (polling c (k + 1)) c w.room w.within z (fits_polling c (k + 1))
 
   whole_last_poll : (held : Bool) (k : ℕ) → c.null ≡ true → Whole (last_poll_move held k c s e).control
   whole_last_poll true k z = w
-  whole_last_poll false k z = whole-at (last_polling (k + 1)) c w.room w.within z (fits_last_polling c.length c.swapped (k + 1))
+  whole_last_poll false k z = whole_at (last_polling (k + 1)) c w.room w.within z (fits_last_polling c.length c.swapped (k + 1))
 
   module _ (l r g : List ℕ) where
     whole_step_at : (p : Phase) → Fits c.length c.swapped c.null p → Whole (step_at p c s e l r g).made.control
     unfolding step_by
     whole_step_at Idle f = w
-    whole_step_at Begin f = whole-at (beginning c) c w.room w.within f.1 (fits_beginning c)
+    whole_step_at Begin f = whole_at (beginning c) c w.room w.within f.1 (fits_beginning c)
     whole_step_at (Poll k) f = whole_poll (holds s e) k f.1
     whole_step_at Copy f =
-        whole-at (draining c.swapped c.length) (copied c) w.room w.within f.1 (fits_draining c.swapped c.length)
+        whole_at (draining c.swapped c.length) (copied c) w.room w.within f.1 (fits_draining c.swapped c.length)
     whole_step_at Drain f =
-        whole-at (draining (c.swapped - 1) (c.length - 1)) (with_log (c.length - 1) (c.swapped - 1) c) (omega (arith, w.room)) (omega (arith, w.within)) f.1
+        whole_at (draining (c.swapped - 1) (c.length - 1)) (with_log (c.length - 1) (c.swapped - 1) c) (omega (arith, w.room)) (omega (arith, w.within)) f.1
         (fits_draining (c.swapped - 1) (c.length - 1))
     whole_step_at (Keep k) f =
-        whole-at (keeping c.length (k + 1)) c w.room w.within f.1 (fits_keeping c.length c.swapped (k + 1))
+        whole_at (keeping c.length (k + 1)) c w.room w.within f.1 (fits_keeping c.length c.swapped (k + 1))
     whole_step_at Swap f = whole_snapping (swapped_over c) 0 w.room (omega arith) f.1
     whole_step_at (Snap k) f = whole_snapping c (k + 1) w.room w.within f.1
-    whole_step_at Null f = whole-at Lock (nulled c) w.room w.within refl (tt, refl)
+    whole_step_at Null f = whole_at Lock (nulled c) w.room w.within refl (tt, refl)
     whole_step_at Lock f =
-        whole-at (last_snapping 0) c w.room w.within f.1 (fits_last_snapping c.length c.swapped 0)
+        whole_at (last_snapping 0) c w.room w.within f.1 (fits_last_snapping c.length c.swapped 0)
     whole_step_at (LastSnap k) f =
-        whole-at (last_snapping (k + 1)) c w.room w.within f.1 (fits_last_snapping c.length c.swapped (k + 1))
+        whole_at (last_snapping (k + 1)) c w.room w.within f.1 (fits_last_snapping c.length c.swapped (k + 1))
     whole_step_at (LastPoll k) f = whole_last_poll (holds s e) k f.1
-    whole_step_at Finish f = whole-at Gone (finished s c) (omega arith) (omega arith) f.1 (tt, refl)
+    whole_step_at Finish f = whole_at Gone (finished s c) (omega arith) (omega arith) f.1 (tt, refl)
     whole_step_at Gone f = w
 
     -- whatever it answers
@@ -213,13 +213,13 @@ module _ (c : Control) (w : Whole c) (s : Slot) (e : ℕ) where
   -- from Idle the pointer is not null
   whole_opened : (o : Opening) → c.null ≡ false → Whole (opened o c s e).control
   unfolding opened
-  whole_opened opening.Publish z = whole-at (beginning c) (with_job Publish c) w.room w.within z (fits_beginning c)
-  whole_opened opening.Try z = whole-at (polling c 0) (with_job Try c) w.room w.within z (fits_polling c 0)
+  whole_opened opening.Publish z = whole_at (beginning c) (with_job Publish c) w.room w.within z (fits_beginning c)
+  whole_opened opening.Try z = whole_at (polling c 0) (with_job Try c) w.room w.within z (fits_polling c 0)
   whole_opened opening.Flush z =
       below (λ (m : Moved). Whole m.control) c.swapped c.length
-      (λ h. whole-at (beginning c) (with_job Publish c) w.room w.within z (fits_beginning c)) (λ h. w)
-  whole_opened opening.Take z = whole-at (taking c) (with_job TakeFirst c) w.room w.within z (fits_taking c)
+      (λ h. whole_at (beginning c) (with_job Publish c) w.room w.within z (fits_beginning c)) (λ h. w)
+  whole_opened opening.Take z = whole_at (taking c) (with_job TakeFirst c) w.room w.within z (fits_taking c)
 
   pub whole_open : (o : Opening) → Whole (open_on o c s e).control
   whole_open o =
-      open-cases (λ m. Whole m.control) o c s e (λ q. whole_opened o (w.pointed ∙ ap nulls q)) (λ a h. w)
+      open_cases (λ m. Whole m.control) o c s e (λ q. whole_opened o (w.pointed ∙ ap nulls q)) (λ a h. w)

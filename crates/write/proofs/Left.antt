@@ -20,7 +20,7 @@ use Rattle.write.specs.declared.Moved.{Moved}
 use Rattle.write.specs.Steps.{at, with_log, copied, swapped_over, next_job, keeping, draining, polled, polling, beginning, published, last_polling, last_snapping, snapping, holds, vacated, moved, refused, stopped, poll_move, last_poll_move, step_at, step_by}
 use Rattle.write.specs.Scans.{polls, stop_answer, halt_answer}
 use Rattle.write.proofs.Count.{last_left, after_left, snap_left, swap_left, drain_left, polled_left, begin_left, left_at, left}
-use Rattle.write.proofs.Cases.{with_job, keeping_cases, draining_cases, polled-cases, polling_cases, beginning_cases, last_polling_cases, last_snapping_cases, snapping-cases}
+use Rattle.write.proofs.Cases.{with_job, keeping_cases, draining_cases, polled_cases, polling_cases, beginning_cases, last_polling_cases, last_snapping_cases, snapping_cases}
 use Rattle.write.proofs.Control.{Whole, Fits, fits}
 
 -- ---- the count, where the writer goes on
@@ -41,23 +41,23 @@ module _ (c : Control) where
 
   left_polled : Left (polled_left c.job c.first c.second c.swapped c.length) (polled c)
   left_polled =
-      polled-cases (Left _) c
+      polled_cases (Left _) c
       (λ e. ap (λ (f : Bool). polled_left c.job f c.second c.swapped c.length) (sym e))
       (λ e d. λ i. polled_left c.job (sym e i) (sym d i) c.swapped c.length)
       (λ e d.
       left_draining ∙ ap (drain_left c.job c.swapped c.length) d
       ∙ (λ i. polled_left c.job (sym e i) (sym d i) c.swapped c.length))
 
-  pub left-polling :
+  pub left_polling :
       (k : ℕ) → Left ((slot_count - k) + polled_left c.job c.first c.second c.swapped c.length) (polling c k)
-  left-polling k = polling_cases (Left _) c k (λ u. refl) (λ u. left_polled ∙ omega arith)
+  left_polling k = polling_cases (Left _) c k (λ u. refl) (λ u. left_polled ∙ omega arith)
 
   left_beginning : Left (begin_left c.job c.first c.second c.swapped c.length) (beginning c)
   left_beginning =
       beginning_cases (Left _) c
       (λ e. ap (λ (f : Bool). begin_left c.job f c.second c.swapped c.length) (sym e))
       (λ e.
-      left-polling 0 ∙ rw (sub-zero slot_count) (ap (λ (f : Bool). slot_count + polled_left c.job f c.second c.swapped c.length) e)
+      left_polling 0 ∙ rw (sub-zero slot_count) (ap (λ (f : Bool). slot_count + polled_left c.job f c.second c.swapped c.length) e)
       ∙ ap (λ (f : Bool). begin_left c.job f c.second c.swapped c.length) (sym e))
 
   pub left_last_polling : (k : ℕ) → Left ((slot_count - k) + 1) (last_polling k)
@@ -78,19 +78,19 @@ none_after zero f b h = refl
 none_after (suc n) f b h = absurd (omega arith)
 
 -- the job apart from the control part that holds it
-left-published :
+left_published :
     (c : Control) (j : Job) → left (at (published j c.length) (with_job (next_job j) c)) ≡ after_left j c.length c.first c.second
-left-published c Publish = refl
-left-published c Try = refl
-left-published c TakeFirst =
+left_published c Publish = refl
+left_published c Try = refl
+left_published c TakeFirst =
     below (λ (p : Phase). left (at p (with_job TakeSecond c)) ≡ after_left TakeFirst c.length c.first c.second) 0 c.length
     (λ h. again c.first c.second c.swapped c.length h) (λ h. none_after c.length c.first c.second h)
-left-published c TakeSecond = refl
+left_published c TakeSecond = refl
 
 left_snapping : (c : Control) (k : ℕ) → left (snapping c k) ≡ snap_left k c.job c.length c.first c.second
 left_snapping c k =
-    snapping-cases (λ d. left d ≡ snap_left k c.job c.length c.first c.second) c k (λ h. refl)
-    (λ h. left-published c c.job ∙ omega arith)
+    snapping_cases (λ d. left d ≡ snap_left k c.job c.length c.first c.second) c k (λ h. refl)
+    (λ h. left_published c c.job ∙ omega arith)
 
 -- ---- what a step answers, exactly
 
@@ -277,23 +277,23 @@ module _ (c : Control) (u : underway c.phase ≡ true) (s : Slot) (e : ℕ) wher
 -- ---- a step that is made lowers the count by one
 
 module _ (c : Control) (s : Slot) (e : ℕ) where
-  lowers-poll :
+  lowers_poll :
       (held : Bool) (k : ℕ) → k < slot_count → number (poll_move held k c s e).answer ≡ 0 →
       left_at (Poll k) c ≡ suc (left (poll_move held k c s e).control)
-  lowers-poll true k h z = absurd (stop c.job z)
+  lowers_poll true k h z = absurd (stop c.job z)
     where
       stop : (j : Job) → number (stopped j c s e).answer ≡ 0 → ⊥
       stop Publish z = omega arith
       stop Try z = omega arith
       stop TakeFirst z = omega arith
       stop TakeSecond z = omega arith
-  lowers-poll false k h z = rw (left-polling c (k + 1)) (omega arith)
+  lowers_poll false k h z = rw (left_polling c (k + 1)) (omega arith)
 
-  lowers-lastPoll :
+  lowers_last_poll :
       (held : Bool) (k : ℕ) → k < slot_count → number (last_poll_move held k c s e).answer ≡ 0 →
       left_at (LastPoll k) c ≡ suc (left (last_poll_move held k c s e).control)
-  lowers-lastPoll true k h z = absurd (omega arith)
-  lowers-lastPoll false k h z = rw (left_last_polling c (k + 1)) (omega arith)
+  lowers_last_poll true k h z = absurd (omega arith)
+  lowers_last_poll false k h z = rw (left_last_polling c (k + 1)) (omega arith)
 
   module _ (w : Whole c) (l r g : List ℕ) where
     lowers_at :
@@ -302,7 +302,7 @@ module _ (c : Control) (s : Slot) (e : ℕ) where
     unfolding step_by
     lowers_at Idle f z = absurd (omega arith)
     lowers_at Begin f z = rw (left_beginning c) (omega arith)
-    lowers_at (Poll k) f z = lowers-poll (holds s e) k f.0 z
+    lowers_at (Poll k) f z = lowers_poll (holds s e) k f.0 z
     lowers_at Copy f z = rw (left_draining (copied c)) (omega arith)
     lowers_at Drain f z =
         let m : c.length - 1 - (c.swapped - 1) ≡ c.length - c.swapped = omega (arith, w.within) in
@@ -313,13 +313,13 @@ module _ (c : Control) (s : Slot) (e : ℕ) where
     lowers_at Null f z = omega arith
     lowers_at Lock f z = rw (left_last_snapping c 0) (omega arith)
     lowers_at (LastSnap k) f z = rw (left_last_snapping c (k + 1)) (omega arith)
-    lowers_at (LastPoll k) f z = lowers-lastPoll (holds s e) k f.0 z
+    lowers_at (LastPoll k) f z = lowers_last_poll (holds s e) k f.0 z
     lowers_at Finish f z = refl
     lowers_at Gone f z = absurd (omega arith)
 
-    pub step-lowers :
+    pub step_lowers :
         number (step_at c.phase c s e l r g).made.answer ≡ 0 → left c ≡ suc (left (step_at c.phase c s e l r g).made.control)
-    step-lowers z = lowers_at c.phase (fits w) z
+    step_lowers z = lowers_at c.phase (fits w) z
 
 -- ---- it is 0 exactly where no call is under way
 

@@ -23,11 +23,11 @@ of_right_lem side f l r q h = (rw (q, of_left), rw (q, of_right) h)
 
 -- ---- an operation of the log
 
-pub logged-applied :
+pub logged_applied :
     (how : Search) (g : List ℕ) (i : ℕ) (w : List ℕ) {kind key amount : ℕ} {o : Out} →
     i < log_room → kind ≡ get_or g (3 * i) 0 → key ≡ get_or g (3 * i + 1) 0 → amount ≡ get_or g (3 * i + 2) 0 → o ≡ apply_by how kind key amount w →
     o.copy ≡ log_applied_by how g i w
-logged-applied how g i w h x y z e = ap (λ (o : Out). o.copy) e ∙ rw (x, y, z, log_applied_by, lt-ltb i log_room h)
+logged_applied how g i w h x y z e = ap (λ (o : Out). o.copy) e ∙ rw (x, y, z, log_applied_by, lt-ltb i log_room h)
 
 pub logged_beyond : (how : Search) (g : List ℕ) (i : ℕ) (w : List ℕ) → log_room ≤ i → w ≡ log_applied_by how g i w
 logged_beyond how g i w h = rw (log_applied_by, le-ltb i log_room h)
@@ -38,10 +38,10 @@ unlogged_room n m g h q e = rw (unlogged, le-leb n log_room h) (e ∙ ap (λ (m 
 pub unlogged_beyond : (n : ℕ) (g : List ℕ) → log_room < n → g ≡ unlogged n g
 unlogged_beyond n g h = rw (unlogged, lt-leb n log_room h)
 
-pub logged-put :
+pub logged_put :
     (n kind key amount : ℕ) (g : List ℕ) {x y z : List ℕ} →
     x ≡ set g (3 * n) kind → y ≡ set x (3 * n + 1) key → z ≡ set y (3 * n + 2) amount → z ≡ logged n kind key amount g
-logged-put n kind key amount g x y z = z ∙ rw (y, x)
+logged_put n kind key amount g x y z = z ∙ rw (y, x)
 
 -- ---- one copy over another
 

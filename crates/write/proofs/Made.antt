@@ -46,20 +46,20 @@ module _ (n : ℕ) (c : Control) where
       (λ e. e ∙ sym (le-ltb log_room (c.length + n) (let u = ltb-false m n e in omega arith))))
 
 module _ (how : Search) (os : List Op) (c : Control) (s : Slot) (e : ℕ) (l r g : List ℕ) where
-  pub appended-first :
+  pub appended_first :
       {m : Moved} {t : Slot} {l' r' : List ℕ} →
       c.first ≡ true → t ≡ with_due ((s.epoch + 2) % 2 ^ 64) s.due s → m ≡ value 0 c t e →
       (l' ≡ of_left c.right (operated_all_by how os) l) × (r' ≡ of_right c.right (operated_all_by how os) r) →
       lent m l' r' g ≡ appended how c.first os c s e l r g
-  appended-first x y h w =
+  appended_first x y h w =
       (λ i. lent ((h ∙ ap (λ (t : Slot). value 0 c t e) y) i) (w.0 i) (w.1 i) g)
       ∙ ap (λ (f : Bool). appended how f os c s e l r g) (sym x)
 
-  pub appended-later :
+  pub appended_later :
       {m : Moved} {d : Control} {n : ℕ} {g' : List ℕ} →
       c.first ≡ false → n ≡ length os → d ≡ with_log (c.length + n) c.swapped c → m ≡ value 0 d s e →
       g' ≡ logged_all c.length os g → lent m l r g' ≡ appended how c.first os c s e l r g
-  appended-later x z y h w =
+  appended_later x z y h w =
       (λ i. lent ((h ∙ ap (λ (d : Control). value 0 d s e) (y ∙ ap (λ (n : ℕ). with_log (c.length + n) c.swapped c) z)) i) l r (w i))
       ∙ ap (λ (f : Bool). appended how f os c s e l r g) (sym x)
 
@@ -133,25 +133,25 @@ module _ (o : Opening) (c : Control) (s : Slot) (e : ℕ) where
   unfolding opened
   opened_publish q x h = opened_by q (valued x h)
 
-  pub opened-try :
+  pub opened_try :
       {m : Moved} {d : Control} → o ≡ opening.Try → d ≡ standing (Poll 0) Try c → m ≡ value 0 d s e → m ≡ opened o c s e
   unfolding opened
-  opened-try q x h = opened_by q (valued (x ∙ ap (λ (p : Phase). standing p Try c) (polling_here c 0 (omega arith))) h)
+  opened_try q x h = opened_by q (valued (x ∙ ap (λ (p : Phase). standing p Try c) (polling_here c 0 (omega arith))) h)
 
-  pub opened-flush :
+  pub opened_flush :
       {m : Moved} {d : Control} → o ≡ opening.Flush → c.swapped < c.length → d ≡ begun c → m ≡ value 1 d s e → m ≡ opened o c s e
   unfolding opened
-  opened-flush q k x h = opened_by q (rw (opened, lt-ltb c.swapped c.length k) (valued x h))
+  opened_flush q k x h = opened_by q (rw (opened, lt-ltb c.swapped c.length k) (valued x h))
 
   pub opened_idle : {m : Moved} → o ≡ opening.Flush → c.length ≤ c.swapped → m ≡ value 0 c s e → m ≡ opened o c s e
   unfolding opened
   opened_idle q k h = opened_by q (rw (opened, le-ltb c.swapped c.length k) h)
 
-  pub opened-take :
+  pub opened_take :
       {m : Moved} {p : Phase} {d : Control} →
       o ≡ opening.Take → p ≡ taking c → d ≡ standing p TakeFirst c → m ≡ value 0 d s e → m ≡ opened o c s e
   unfolding opened
-  opened-take q x y h = opened_by q (valued (y ∙ ap (λ (p : Phase). standing p TakeFirst c) x) h)
+  opened_take q x y h = opened_by q (valued (y ∙ ap (λ (p : Phase). standing p TakeFirst c) x) h)
 
   abbrev OpenJudged : Verdict → Moved
   OpenJudged v = elim v [ Admitted ↦ opened o c s e | Refused a ↦ refused a c s e ]

@@ -25,11 +25,11 @@ use Rattle.write.specs.Begins.{step_signs, append_on, open_on, opened}
 use Rattle.write.specs.Runs.{snap_at, lift, step_on, enough, run_while, run_on}
 use Rattle.write.specs.Machine.{going, call_on, call_rule}
 use Rattle.write.proofs.Verdicts.{judging}
-use Rattle.write.proofs.Cases.{open-cases, run_keeps}
+use Rattle.write.proofs.Cases.{open_cases, run_keeps}
 use Rattle.write.proofs.Control.{some_slot, whole_free, whole_step, whole_append, whole_open}
 use Rattle.write.proofs.Judged.{Good, good_fit, good_judged}
 use Rattle.write.proofs.Words.{kept_tidy, Words, words_step, words_append}
-use Rattle.write.proofs.Reorders.{Reorders, orderly-left, reorders_create, reorders-handle, reorders_step, reorders-append, reorders_open}
+use Rattle.write.proofs.Reorders.{Reorders, orderly_left, reorders_create, reorders_handle, reorders_step, reorders_append, reorders_open}
 
 -- a beginning leaves the log as it is
 opened_length : (o : Opening) (c : Control) (s : Slot) (e : ℕ) → (opened o c s e).control.length ≡ c.length
@@ -40,7 +40,7 @@ opened_length opening.Flush c s e = below (λ (m : Moved). m.control.length ≡ 
 opened_length opening.Take c s e = refl
 
 open_length : (o : Opening) (c : Control) (s : Slot) (e : ℕ) → (open_on o c s e).control.length ≡ c.length
-open_length o c s e = open-cases (λ m. m.control.length ≡ c.length) o c s e (λ q. opened_length o c s e) (λ a h. refl)
+open_length o c s e = open_cases (λ m. m.control.length ≡ c.length) o c s e (λ q. opened_length o c s e) (λ a h. refl)
 
 -- ---- a sound machine
 
@@ -72,22 +72,22 @@ SoundOut o = Sound o.made.state o.left o.right o.log
 -- ---- the calls
 
 -- a move at one slot that leaves control part, words and order good
-sound-lift :
+sound_lift :
     {st : State} {l r g : List ℕ} (i : ℕ) (m : Lent Moved) → Sound st l r g → Good Tidy m.made.control m.left m.right m.log →
     Reorders i st.control.free (slot_at st i) m.made.control.free m.made.slot → SoundOut (lift i st m)
-sound-lift {st} i m h d o = record {
+sound_lift {st} i m h d o = record {
   good = d;
-  ordered = orderly-left st h.slots h.ordered o m.made.control (set st.snapshots i m.made.snapshot) refl;
+  ordered = orderly_left st h.slots h.ordered o m.made.control (set st.snapshots i m.made.snapshot) refl;
   slots = length-set st.slots i m.made.slot ∙ h.slots;
   snapshots = length-set st.snapshots i m.made.snapshot ∙ h.snapshots;
 }
 
-sound-replied :
+sound_replied :
     {st : State} {l r g : List ℕ} (i : ℕ) (m : Made) → Sound st l r g →
     Reorders i st.control.free (slot_at st i) m.free m.slot → SoundOut (lent (reply_of i m st) l r g)
-sound-replied {st} i m h o = record {
+sound_replied {st} i m h o = record {
   good = record { whole = whole_free m.free h.good.whole; words = h.good.words };
-  ordered = orderly-left st h.slots h.ordered o (with_free m.free st.control) st.snapshots refl;
+  ordered = orderly_left st h.slots h.ordered o (with_free m.free st.control) st.snapshots refl;
   slots = length-set st.slots i m.slot ∙ h.slots;
   snapshots = h.snapshots;
 }
@@ -97,14 +97,14 @@ module _ (st : State) (l r g : List ℕ) (h : Sound st l r g) where
   sound_create =
       let c = st.control in
       let s = slot_at st c.free in
-      sound-replied c.free (create_on c s) h (reorders_create c s)
+      sound_replied c.free (create_on c s) h (reorders_create c s)
 
   sound_handle : (i : ℕ) (k : Handle) → SoundOut (lent (handle_reply i k l r st) l r g)
   sound_handle i k = below (λ (a : Reply). SoundOut (lent a l r g)) i slot_count
       (λ b.
       let c = st.control in
       let s = slot_at st i in
-      sound-replied i (handle_on c i s k l r) h (reorders-handle c i s b k l r))
+      sound_replied i (handle_on c i s k l r) h (reorders_handle c i s b k l r))
       (λ b. h)
 
   sound_append : (os : List Op) → SoundOut (lift 0 st (append_on os st.control (slot_at st 0) (snap_at st 0) l r g))
@@ -112,19 +112,19 @@ module _ (st : State) (l r g : List ℕ) (h : Sound st l r g) where
       let c = st.control in
       let s = slot_at st 0 in
       let e = snap_at st 0 in
-      sound-lift 0 (append_on os c s e l r g) h
+      sound_lift 0 (append_on os c s e l r g) h
       (record {
         whole = whole_append c h.good.whole s e os l r g;
         words = words_append kept_tidy c s e l r g h.good.words os;
       })
-      (reorders-append c s e l r g os)
+      (reorders_append c s e l r g os)
 
   sound_open : (o : Opening) → SoundOut (lift 0 st (lent (open_on o st.control (slot_at st 0) (snap_at st 0)) l r g))
   sound_open o =
       let c = st.control in
       let s = slot_at st 0 in
       let e = snap_at st 0 in
-      sound-lift 0 (lent (open_on o c s e) l r g) h
+      sound_lift 0 (lent (open_on o c s e) l r g) h
       (record { whole = whole_open c h.good.whole s e o; words = subst (λ (n : ℕ). Words Tidy n l r g) (sym (open_length o c s e)) h.good.words })
       (reorders_open c s e o)
 
@@ -135,7 +135,7 @@ module _ (st : State) (l r g : List ℕ) (h : Sound st l r g) where
       let i = place c.phase in
       let s = slot_at st i in
       let e = snap_at st i in
-      sound-lift i (step_at c.phase c s e l r g) h
+      sound_lift i (step_at c.phase c s e l r g) h
       (record {
         whole = whole_step c h.good.whole s e l r g;
         words = words_step kept_tidy c s e l r g h.good.words h.good.whole;
@@ -147,10 +147,10 @@ sound_run =
     run_keeps step_on Sound SoundOut (λ n st l r g h. h) (λ st l r g h u z. sound_step st l r g h)
     (λ n st l r g h u a z. sound_step st l r g h)
 
-sound-going :
+sound_going :
     (column : ℕ) (rule : State → List ℕ → List ℕ → List ℕ → Lent Reply) (st : State) (l r g : List ℕ) → Sound st l r g →
     SoundOut (rule st l r g) → SoundOut (going column rule st l r g)
-sound-going column rule st l r g h x = judging SoundOut (smallest (step_signs column st.control)) (λ v. x) (λ a v. h)
+sound_going column rule st l r g h x = judging SoundOut (smallest (step_signs column st.control)) (λ v. x) (λ a v. h)
 
 -- every call keeps it, whatever it answers
 pub sound_call_on : (k : Call) (st : State) (l r g : List ℕ) → Sound st l r g → SoundOut (call_on k st l r g)
@@ -159,8 +159,8 @@ sound_call_on Create st l r g h = sound_create st l r g h
 sound_call_on (On i k) st l r g h = sound_handle st l r g h i k
 sound_call_on (Append os) st l r g h = sound_append st l r g h os
 sound_call_on (Open o) st l r g h = sound_open st l r g h o
-sound_call_on Step st l r g h = sound-going 12 step_on st l r g h (sound_step st l r g h)
-sound_call_on Run st l r g h = sound-going 13 run_on st l r g h (sound_run enough 0 st l r g h)
+sound_call_on Step st l r g h = sound_going 12 step_on st l r g h (sound_step st l r g h)
+sound_call_on Run st l r g h = sound_going 13 run_on st l r g h (sound_run enough 0 st l r g h)
 
 -- on a sound machine nothing is refused by 1 or 2
 pub call_made : (k : Call) (st : State) (l r g : List ℕ) → Sound st l r g → call_rule k st l r g ≡ call_on k st l r g

@@ -85,10 +85,10 @@ last_snapping_done k h = rw (last_snapping, le-ltb k slot_total h)
 
 -- ---- an operation taken off the log
 
-pub drained-of :
+pub drained_of :
     (c : Control) {n s : ℕ} {p : Phase} {w r : Control} →
     n ≡ c.length - 1 → s ≡ c.swapped - 1 → p ≡ draining s n → w ≡ with_log n s c → r ≡ at p w → r ≡ drained c
-drained-of c x y e g h = h ∙ rw (g, e, x, y)
+drained_of c x y e g h = h ∙ rw (g, e, x, y)
 
 -- ---- one slot
 
@@ -127,10 +127,10 @@ module _ (c : Control) (s : Slot) (e : ℕ) where
   pub stopped_by : {j : Job} {r : Moved} → c.job ≡ j → r ≡ stopped j c s e → r ≡ stopped c.job c s e
   stopped_by q h = h ∙ ap (λ (j : Job). stopped j c s e) (sym q)
 
-  pub stopped-try :
+  pub stopped_try :
       {d : Control} → c.job ≡ Try → d ≡ at Idle c →
       record { answer = answer.Declined; value = 1; control = d; slot = s; snapshot = e } ≡ stopped c.job c s e
-  stopped-try q h =
+  stopped_try q h =
       stopped_by q (ap (λ (d : Control). record { answer = answer.Declined; value = 1; control = d; slot = s; snapshot = e }) h)
 
   pub poll_stopped : (k : ℕ) {b : Bool} {r : Moved} → b ≡ true → r ≡ stopped c.job c s e → r ≡ poll_move b k c s e
@@ -144,7 +144,7 @@ module _ (c : Control) (s : Slot) (e : ℕ) where
   pub last_poll_stopped : (k : ℕ) {b : Bool} {r : Moved} → b ≡ true → r ≡ refused answer.Held c s e → r ≡ last_poll_move b k c s e
   last_poll_stopped k q h = rw q h
 
-  pub last-poll-passed :
+  pub last_poll_passed :
       (k : ℕ) {b : Bool} {p : Phase} {r : Moved} →
       b ≡ false → p ≡ last_polling (k + 1) → r ≡ moved (at p c) s e → r ≡ last_poll_move b k c s e
-  last-poll-passed k q e' h = rw q (h ∙ ap (λ (p : Phase). moved (at p c) s e) e')
+  last_poll_passed k q e' h = rw q (h ∙ ap (λ (p : Phase). moved (at p c) s e) e')

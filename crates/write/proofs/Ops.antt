@@ -17,15 +17,15 @@ ops_length (a ∷ b ∷ []) = refl
 ops_length (a ∷ b ∷ c ∷ ws) = let h = ops_length ws in omega arith
 
 -- the operation at word i
-ops-next :
+ops_next :
     (i : ℕ) (ws : List ℕ) → i + 2 < length ws →
     ops_in (drop i ws) ≡ op (get_or ws i 0) (get_or ws (i + 1) 0) (get_or ws (i + 2) 0) ∷ ops_in (drop (i + 3) ws)
-ops-next zero [] h = absurd (omega arith)
-ops-next zero (a ∷ []) h = absurd (omega arith)
-ops-next zero (a ∷ b ∷ []) h = absurd (omega arith)
-ops-next zero (a ∷ b ∷ c ∷ ws) h = refl
-ops-next (suc i) [] h = absurd (omega arith)
-ops-next (suc i) (a ∷ ws) h = simp unary_clauses (simp unary_clauses at (ops-next i ws (omega arith)))
+ops_next zero [] h = absurd (omega arith)
+ops_next zero (a ∷ []) h = absurd (omega arith)
+ops_next zero (a ∷ b ∷ []) h = absurd (omega arith)
+ops_next zero (a ∷ b ∷ c ∷ ws) h = refl
+ops_next (suc i) [] h = absurd (omega arith)
+ops_next (suc i) (a ∷ ws) h = simp unary_clauses (simp unary_clauses at (ops_next i ws (omega arith)))
 
 -- one that is cut short
 ops_short : (i : ℕ) (ws : List ℕ) → i < length ws → length ws ≤ i + 2 → ops_in (drop i ws) ≡ op 0 0 0 ∷ []
@@ -57,7 +57,7 @@ module _ (i : ℕ) (ws : List ℕ) where
 
   module _ (h : i + 2 < length ws) where
     lawful_split : all_lawful rest ≡ (here && all_lawful more)
-    lawful_split = ap all_lawful (ops-next i ws h)
+    lawful_split = ap all_lawful (ops_next i ws h)
 
     pub lawful_stop : here ≡ false → false ≡ all_lawful rest
     lawful_stop e = sym (lawful_split ∙ ap (λ (b : Bool). b && all_lawful more) e)
@@ -69,17 +69,17 @@ module _ (i : ℕ) (ws : List ℕ) where
     lawful_more e = (both here (all_lawful more) (sym lawful_split ∙ e)).1
 
     pub length_more : length rest ≡ suc (length more)
-    length_more = ap (λ (os : List Op). length os) (ops-next i ws h)
+    length_more = ap (λ (os : List Op). length os) (ops_next i ws h)
 
-    pub operated-more :
+    pub operated_more :
         (how : Search) (w : List ℕ) →
         operated_all_by how rest w ≡ operated_all_by how more (operated_by how (get_or ws i 0) (get_or ws (i + 1) 0) (get_or ws (i + 2) 0) w)
-    operated-more how w = ap (λ (os : List Op). operated_all_by how os w) (ops-next i ws h)
+    operated_more how w = ap (λ (os : List Op). operated_all_by how os w) (ops_next i ws h)
 
-    pub logged-more :
+    pub logged_more :
         (n : ℕ) (g : List ℕ) → logged_all n rest g ≡ logged_all (n + 1) more (logged n (get_or ws i 0) (get_or ws (i + 1) 0) (get_or ws (i + 2) 0) g)
-    logged-more n g =
-        ap (λ (os : List Op). logged_all n os g) (ops-next i ws h)
+    logged_more n g =
+        ap (λ (os : List Op). logged_all n os g) (ops_next i ws h)
         ∙ ap (λ (m : ℕ). logged_all m more (logged n (get_or ws i 0) (get_or ws (i + 1) 0) (get_or ws (i + 2) 0) g)) {x = suc n} {y = n + 1} (omega arith)
 
   module _ (h : length ws ≤ i + 2) where

@@ -29,9 +29,9 @@ use Rattle.write.specs.Runs.{snap_at, lift, step_on, enough, run_on}
 use Rattle.write.specs.Machine.{going, call_on, call_rule}
 use Rattle.read.proofs.Verdicts.{refused_mild}
 use Rattle.write.proofs.Verdicts.{judging, step_underway}
-use Rattle.write.proofs.Cases.{append_cases, open-cases, run_keeps}
+use Rattle.write.proofs.Cases.{append_cases, open_cases, run_keeps}
 use Rattle.write.proofs.Left.{Stepped, done, held, declined, step_stepped}
-use Rattle.read.proofs.Cases.{state_of, reply-back}
+use Rattle.read.proofs.Cases.{state_of, reply_back}
 
 -- ---- the kinds of a reply
 
@@ -101,7 +101,7 @@ module _ (c : Control) (s : Slot) (e : ℕ) where
   kind_opened opening.Take = made refl
 
   kind_open : (o : Opening) → KindMoved c s e (open_on o c s e)
-  kind_open o = open-cases (KindMoved c s e) o c s e (λ q. kind_opened o) (λ a h. kept a h.0)
+  kind_open o = open_cases (KindMoved c s e) o c s e (λ q. kind_opened o) (λ a h. kept a h.0)
 
   module _ (l r g : List ℕ) where
     kind_append : (os : List Op) → KindMove c s e l r g (append_on os c s e l r g)
@@ -129,7 +129,7 @@ module _ (st : State) (l r g : List ℕ) where
   kind_replied : (i : ℕ) (m : Made) → KindMade st.control (slot_at st i) m → KindCall 13 st l r g (lent (reply_of i m st) l r g)
   kind_replied i m (made z) = made z
   kind_replied i m (kept a h) =
-      subst (λ (x : Reply). KindCall 13 st l r g (lent x l r g)) (sym (reply-back i a 0 st)) (kept a h)
+      subst (λ (x : Reply). KindCall 13 st l r g (lent x l r g)) (sym (reply_back i a 0 st)) (kept a h)
   kind_replied i m (over h) = over h
 
   kind_create : KindCall 13 st l r g (lent (create_reply st) l r g)
@@ -159,11 +159,11 @@ module _ (st : State) (l r g : List ℕ) where
       let e = snap_at st i in
       kind_lift i (step_at c.phase c s e l r g) (kind_stepped c s e l r g (step_stepped c s e l r g c.phase u))
 
-  kind-going :
+  kind_going :
       (b column : ℕ) (rule : State → List ℕ → List ℕ → List ℕ → Lent Reply) →
       (smallest (step_signs column st.control) ≡ Admitted → KindCall b st l r g (rule st l r g)) →
       KindCall b st l r g (going column rule st l r g)
-  kind-going b column rule f =
+  kind_going b column rule f =
       let signs = step_signs column st.control in
       judging (KindCall b st l r g) (smallest signs) f (λ a v. kept a (refused_mild signs refl a v).0)
 
@@ -214,8 +214,8 @@ module _ (st : State) (l r g : List ℕ) where
       (kind_append st.control (slot_at st 0) (snap_at st 0) l r g os)
   kind_call_on (Open o) =
       kind_begin st l r g (open_on o st.control (slot_at st 0) (snap_at st 0)) (kind_open st.control (slot_at st 0) (snap_at st 0) o)
-  kind_call_on Step = kind-going st l r g 13 12 step_on (λ v. kind_step st l r g (step_underway st.control v))
-  kind_call_on Run = kind-going st l r g 12 13 run_on (λ v. ran_kind (run_ran st l r g))
+  kind_call_on Step = kind_going st l r g 13 12 step_on (λ v. kind_step st l r g (step_underway st.control v))
+  kind_call_on Run = kind_going st l r g 12 13 run_on (λ v. ran_kind (run_ran st l r g))
 
   -- 1 to 12, and 13 but of run, change nothing, and have value 0
   kept_same :
@@ -225,24 +225,24 @@ module _ (st : State) (l r g : List ℕ) where
   kept_same (kept a h) x y = refl
   kept_same (over h) x y = absurd (omega arith)
 
-  pub refusal-same :
+  pub refusal_same :
       (k : Call) →
       (let o = call_rule k st l r g in
       1 ≤ number o.made.answer → number o.made.answer ≤ still_up_to k → o ≡ lent (refusal o.made.answer st) l r g)
   unfolding call_rule
-  refusal-same k =
+  refusal_same k =
       judging
       (λ (o : Lent Reply).
       1 ≤ number o.made.answer → number o.made.answer ≤ still_up_to k → o ≡ lent (refusal o.made.answer st) l r g)
       (judged st l r g) (λ v. kept_same (kind_call_on k)) (λ a v x y. refl)
 
 -- below the judgement neither 1 nor 2 is answered
-unbroken-kind :
+unbroken_kind :
     {b : ℕ} {st : State} {l r g : List ℕ} {o : Lent Reply} → 2 ≤ b → KindCall b st l r g o →
     (number o.made.answer ≢ 1) × (number o.made.answer ≢ 2)
-unbroken-kind h (made z) = (λ q. omega arith, λ q. omega arith)
-unbroken-kind h (kept a x) = (λ q. omega arith, λ q. omega arith)
-unbroken-kind h (over x) = (λ q. omega arith, λ q. omega arith)
+unbroken_kind h (made z) = (λ q. omega arith, λ q. omega arith)
+unbroken_kind h (kept a x) = (λ q. omega arith, λ q. omega arith)
+unbroken_kind h (over x) = (λ q. omega arith, λ q. omega arith)
 
 pub still_large : (k : Call) → 12 ≤ still_up_to k
 still_large Create = omega arith
@@ -255,4 +255,4 @@ still_large Run = omega arith
 pub unbroken :
     (k : Call) (st : State) (l r g : List ℕ) →
     (let a = number (call_on k st l r g).made.answer in (a ≢ 1) × (a ≢ 2))
-unbroken k st l r g = unbroken-kind (let h = still_large k in omega arith) (kind_call_on st l r g k)
+unbroken k st l r g = unbroken_kind (let h = still_large k in omega arith) (kind_call_on st l r g k)

@@ -20,14 +20,14 @@ use Rattle.read.specs.Handles.{smallest, handle_signs, create_signs, freed, load
 use Rattle.read.specs.Calls.{slot_at}
 use Rattle.read.proofs.Verdicts.{silent}
 use Rattle.read.proofs.Cases.{state_of, create_room}
-use Rattle.read.proofs.Orderly.{orderly-stored, orderly-created, orderly-freed}
+use Rattle.read.proofs.Orderly.{orderly_stored, orderly_created, orderly_freed}
 use Rattle.write.specs.declared.Moved.{Moved}
 use Rattle.write.specs.declared.Opening.{Opening}
 use Rattle.write.specs.declared.Opening.TheVariants as opening
 use Rattle.write.specs.Steps.{vacated, first_then, swapped_over, holds, stopped, poll_move, last_poll_move, step_at, step_by}
 use Rattle.write.specs.Begins.{append_on, opened, open_on}
 use Rattle.write.proofs.Verdicts.{judging}
-use Rattle.write.proofs.Cases.{append_cases, open-cases, snapping-cases}
+use Rattle.write.proofs.Cases.{append_cases, open_cases, snapping_cases}
 use Rattle.write.proofs.Control.{some_slot}
 
 -- what becomes of the slot that is handed out next, which was k, and of slot i, which was s
@@ -37,15 +37,15 @@ pub data Reorders (i k : ℕ) (s : Slot) : ℕ → Slot → Type 0 where
   frees : i < slot_count → s.used ≡ true → Reorders i k s i (freed k s)
 
 -- so the order stays whole, whatever else the control part and the snapshots become
-pub orderly-left :
+pub orderly_left :
     (st : State) {i n : ℕ} {t : Slot} → length st.slots ≡ slot_count → orderly st ≡ true →
     Reorders i st.control.free (slot_at st i) n t → (c : Control) (es : List ℕ) → c.free ≡ n →
     orderly (state_of c (set st.slots i t) es) ≡ true
-orderly-left st {i = i} sized h (stays {t = t} u l) c es e = orderly-stored st i t c es u l e ∙ h
-orderly-left st {i = i} sized h (takes q b) c es e =
+orderly_left st {i = i} sized h (stays {t = t} u l) c es e = orderly_stored st i t c es u l e ∙ h
+orderly_left st {i = i} sized h (takes q b) c es e =
     subst (λ (j : ℕ). j < slot_count → c.free ≡ behind j (slot_at st j).link → orderly (state_of c (set st.slots j new_slot) es) ≡ true)
-    (sym q) (orderly-created st sized h c es) b e
-orderly-left st {i = i} sized h (frees b u) c es e = orderly-freed st sized h c es i (slot_at st i) b u e
+    (sym q) (orderly_created st sized h c es) b e
+orderly_left st {i = i} sized h (frees b u) c es e = orderly_freed st sized h c es i (slot_at st i) b u e
 
 -- ---- create, and the calls on a handle
 
@@ -78,10 +78,10 @@ module _ (c : Control) (i : ℕ) (s : Slot) where
   reorders_handled b u (LookUp j key) l r = stays refl refl
   reorders_handled b u WasDropped l r = stays refl refl
 
-  pub reorders-handle :
+  pub reorders_handle :
       i < slot_count → (h : Handle) (l r : List ℕ) → (let m = handle_on c i s h l r in Reorders i c.free s m.free m.slot)
   unfolding handle_by
-  reorders-handle b h l r =
+  reorders_handle b h l r =
       let signs = handle_signs c (eqb i 0) s h in
       judging ReordersMade (smallest signs) (λ v. reorders_handled b (not-false s.used (silent 4 signs v)) h l r) (λ a v. stays refl refl)
 
@@ -123,9 +123,9 @@ module _ (c : Control) (s : Slot) (e : ℕ) where
     reorders_step Drain = stays refl refl
     reorders_step (Keep k) = stays refl refl
     reorders_step Swap =
-        snapping-cases (λ d. Reorders 0 c.free s d.free s) (swapped_over c) 0 (λ h. stays refl refl) (λ h. stays refl refl)
+        snapping_cases (λ d. Reorders 0 c.free s d.free s) (swapped_over c) 0 (λ h. stays refl refl) (λ h. stays refl refl)
     reorders_step (Snap k) =
-        snapping-cases (λ d. Reorders k c.free s d.free s) c (k + 1) (λ h. stays refl refl) (λ h. stays refl refl)
+        snapping_cases (λ d. Reorders k c.free s d.free s) c (k + 1) (λ h. stays refl refl) (λ h. stays refl refl)
     reorders_step Null = stays refl refl
     reorders_step Lock = stays refl refl
     reorders_step (LastSnap k) = stays refl refl
@@ -133,9 +133,9 @@ module _ (c : Control) (s : Slot) (e : ℕ) where
     reorders_step Finish = reorders_finish
     reorders_step Gone = stays refl refl
 
-    pub reorders-append :
+    pub reorders_append :
         (os : List Op) → (let m = (append_on os c s e l r g).made in Reorders 0 c.free s m.control.free m.slot)
-    reorders-append os =
+    reorders_append os =
         append_cases (λ m. ReordersMove 0 m.made) os c s e l r g (λ q h. stays refl refl) (λ q u h. stays refl refl) (λ a h. stays refl refl)
 
   reorders_opened : (o : Opening) → ReordersMove 0 (opened o c s e)
@@ -146,4 +146,4 @@ module _ (c : Control) (s : Slot) (e : ℕ) where
   reorders_opened opening.Take = stays refl refl
 
   pub reorders_open : (o : Opening) → (let m = open_on o c s e in Reorders 0 c.free s m.control.free m.slot)
-  reorders_open o = open-cases (ReordersMove 0) o c s e (λ q. reorders_opened o) (λ a h. stays refl refl)
+  reorders_open o = open_cases (ReordersMove 0) o c s e (λ q. reorders_opened o) (λ a h. stays refl refl)

@@ -46,11 +46,11 @@ module _ (how : Search) where
   right_same false f h e = e
 
   module _ (c : Control) (s : Slot) (e : ℕ) (l r g : List ℕ) (x : Tidy l) (y : Tidy r) where
-    applies-same :
+    applies_same :
         (i : ℕ) (m : Moved) (d : List ℕ) →
         lent m (of_left c.right (log_applied_by how g i) l) (of_right c.right (log_applied_by how g i) r) d
         ≡ lent m (of_left c.right (log_applied g i) l) (of_right c.right (log_applied g i) r) d
-    applies-same i m d =
+    applies_same i m d =
         λ k.
         lent m (left_same c.right (log_applied_by how g i) (log_applied g i) (log_applied_rising g i l x) k)
         (right_same c.right (log_applied_by how g i) (log_applied g i) (log_applied_rising g i r y) k) d
@@ -61,8 +61,8 @@ module _ (how : Search) where
     step_at_lem Begin = refl
     step_at_lem (Poll k) = refl
     step_at_lem Copy = refl
-    step_at_lem Drain = applies-same 0 (moved (drained c) s e) (unlogged c.length g)
-    step_at_lem (Keep k) = applies-same k (moved (at (keeping c.length (k + 1)) c) s e) g
+    step_at_lem Drain = applies_same 0 (moved (drained c) s e) (unlogged c.length g)
+    step_at_lem (Keep k) = applies_same k (moved (at (keeping c.length (k + 1)) c) s e) g
     step_at_lem Swap = refl
     step_at_lem (Snap k) = refl
     step_at_lem Null = refl

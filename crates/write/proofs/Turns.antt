@@ -17,7 +17,7 @@ use Rattle.write.specs.Steps.{holds, step_at}
 use Rattle.write.specs.Scans.{polls, halt_answer, halted}
 use Rattle.write.specs.Runs.{snap_at, put_back, lift, step_on}
 use Rattle.write.proofs.Control.{Placed, Whole}
-use Rattle.write.proofs.RunLaws.{Goes, Scans, scanning, goes_made, scan_start, scan-passed, scan-stopped}
+use Rattle.write.proofs.RunLaws.{Goes, Scans, scanning, goes_made, scan_start, scan_passed, scan_stopped}
 
 placed_below : (n s : ℕ) (p : Phase) → Placed n s p → place p < slot_total
 unfolding slot_count
@@ -41,12 +41,12 @@ pub place_below : {c : Control} {i : ℕ} → Whole c → i ≡ place c.phase �
 place_below {c} w e = subst (λ (i : ℕ). i < slot_total) (sym e) (placed_below c.length c.swapped c.phase w.placed)
 
 -- a move at slot i, put back
-pub step-lifted :
+pub step_lifted :
     (st : State) (l r g : List ℕ) {i : ℕ} {s : Slot} {m : Moved} {l' r' g' : List ℕ} {q : Reply} →
     i ≡ place st.control.phase → s ≡ slot_at st i → lent m l' r' g' ≡ step_at st.control.phase st.control s (snap_at st i) l r g →
     q ≡ put_back i st m → lent q l' r' g' ≡ step_on st l r g
 unfolding step_on
-step-lifted st l r g {i} {l' = l'} {r' = r'} {g' = g'} p e h x =
+step_lifted st l r g {i} {l' = l'} {r' = r'} {g' = g'} p e h x =
     ap (λ (q : Reply). lent q l' r' g') x
     ∙ ap (λ (o : Lent Moved). lift i st o) (h ∙ ap (λ (s : Slot). step_at st.control.phase st.control s (snap_at st i) l r g) e)
     ∙ ap (λ (j : ℕ). lift j st (step_at st.control.phase st.control (slot_at st j) (snap_at st j) l r g)) p
@@ -54,14 +54,14 @@ step-lifted st l r g {i} {l' = l'} {r' = r'} {g' = g'} p e h x =
 -- ---- a run's loops
 
 -- the slot that is copied out is the one that the rules read
-pub holds-there :
+pub holds_there :
     (ss : List Slot) (i e : ℕ) (d : Slot) {b r : Bool} → i < length ss → r ≡ holds (get_or ss i d) e → r ≡ b → holds (get_or ss i no_slot) e ≡ b
-holds-there ss i e d h x y = ap (λ (s : Slot). holds s e) (sym (get_d_within ss i d no_slot h)) ∙ sym x ∙ y
+holds_there ss i e d h x y = ap (λ (s : Slot). holds s e) (sym (get_d_within ss i d no_slot h)) ∙ sym x ∙ y
 
-step-there :
+step_there :
     (c : Control) (ss : List Slot) (i e : ℕ) (d : Slot) (l r g : List ℕ) {o : Lent Moved} → i < length ss →
     o ≡ step_at c.phase c (get_or ss i d) e l r g → o ≡ step_at c.phase c (get_or ss i no_slot) e l r g
-step-there c ss i e d l r g h x = x ∙ ap (λ (s : Slot). step_at c.phase c s e l r g) (get_d_within ss i d no_slot h)
+step_there c ss i e d l r g h x = x ∙ ap (λ (s : Slot). step_at c.phase c s e l r g) (get_d_within ss i d no_slot h)
 
 -- before each turn of the steps: the run goes on from here to what it is to give, with no answer yet
 pub record Running (o : Lent Reply) (k n : ℕ) (a : Answer) (c : Control) (ss : List Slot) (es l r g l₀ r₀ g₀ : List ℕ) : Type 0 where
@@ -93,10 +93,10 @@ module _ {o : Lent Reply} {k n : ℕ} {a : Answer} {c : Control} {ss : List Slot
     (v : Running o k n a c ss es l r g l₀ r₀ g₀)
   where
     -- the slots are passed: the run goes on with the scan's next control part
-    pub runs-scanned :
+    pub runs_scanned :
         {i₀ : ℕ} {d : Control} {m i : ℕ} {b : Answer} {p : Control} →
         Scanned c n i₀ a d m i b ss es l r g → p ≡ scanning d i → Running o k m b p ss es l r g l₀ r₀ g₀
-    runs-scanned {m = m} w e =
+    runs_scanned {m = m} w e =
         record {
           goes = subst (λ (p : Control). Goes o k m p ss es l r g) (sym e) (w.scans o k v.goes);
           done = w.quiet ∙ v.done;
@@ -107,14 +107,14 @@ module _ {o : Lent Reply} {k n : ℕ} {a : Answer} {c : Control} {ss : List Slot
         }
 
     -- a step that is no poll is made
-    pub runs-stepped :
+    pub runs_stepped :
         (i : ℕ) (d : Slot) (m : Moved) (l' r' g' : List ℕ) → i ≡ place c.phase → i < slot_total →
         lent m l' r' g' ≡ step_at c.phase c (get_or ss i d) (get_or es i 0) l r g → underway c.phase ≡ true → polls c.phase ≡ false →
         length l' ≡ length l → length r' ≡ length r → length g' ≡ length g →
         Running o k (n + 1) a m.control (set ss i m.slot) (set es i m.snapshot) l' r' g' l₀ r₀ g₀
-    runs-stepped i d m l' r' g' e b h u q x y z =
+    runs_stepped i d m l' r' g' e b h u q x y z =
         record {
-          goes = goes_made v.goes i e (lent m l' r' g') (step-there c ss i (get_or es i 0) d l r g (omega (arith, v.slots)) h) u q;
+          goes = goes_made v.goes i e (lent m l' r' g') (step_there c ss i (get_or es i 0) d l r g (omega (arith, v.slots)) h) u q;
           done = v.done;
           slots = length-set ss i m.slot ∙ v.slots;
           left = x ∙ v.left;
@@ -129,17 +129,17 @@ module _ {c₀ : Control} {n₀ i₀ : ℕ} {a₀ : Answer} {c : Control} {n i :
     unfolding slot_count
     scan_on f =
         record {
-          scans = λ o k h. scan-passed c i (v.scans o k h) v.polling b f;
+          scans = λ o k h. scan_passed c i (v.scans o k h) v.polling b f;
           polling = v.polling;
           count = omega (arith, v.count);
           from = v.from;
           quiet = v.quiet;
         }
 
-    pub scan-ends :
+    pub scan_ends :
         {o : Lent Reply} {k : ℕ} {w : Answer} {p d : Control} → Goes o k n₀ c₀ ss es l r g → holds (get_or ss i no_slot) (get_or es i 0) ≡ true →
         w ≡ halt_answer c.phase c.job → p ≡ scanning c i → d ≡ halted c.phase p →
         lent (record { answer = w; value = n; state = state_of d ss es }) l r g ≡ o
     unfolding slot_count
-    scan-ends {o} {k} h f x y z =
-        scan-stopped c i (v.scans o k h) v.polling b f x (z ∙ ap (λ (q : Control). halted c.phase q) y)
+    scan_ends {o} {k} h f x y z =
+        scan_stopped c i (v.scans o k h) v.polling b f x (z ∙ ap (λ (q : Control). halted c.phase q) y)

@@ -33,10 +33,10 @@ idle_by =
     (λ p u g e. clash (ap (λ (b : Bool). eqb (not_now (b || is_gone p)) 6) u) e)
 
 -- append, in column 7, is admitted in phase Idle alone, and so are the beginnings
-pub append-idle :
+pub append_idle :
     (unlawful full : Bool) (c : Control) (s : Slot) → smallest (writer_signs 7 unlawful full c s) ≡ Admitted → c.phase ≡ Idle
 unfolding entry
-append-idle unlawful full c s e =
+append_idle unlawful full c s e =
     idle_by c.phase (neither _ _ (silent 6 (writer_signs 7 unlawful full c s) e)).0
 
 open_timely : (o : Opening) (p : Phase) → eqb (entry p (column_of o)) 6 ≡ false → eqb (not_now (underway p || is_gone p)) 6 ≡ false
@@ -46,9 +46,9 @@ open_timely opening.Try p e = e
 open_timely opening.Flush p e = e
 open_timely opening.Take p e = e
 
-pub open-idle :
+pub open_idle :
     (o : Opening) (c : Control) (s : Slot) → smallest (writer_signs (column_of o) false false c s) ≡ Admitted → c.phase ≡ Idle
-open-idle o c s e =
+open_idle o c s e =
     idle_by c.phase
     (open_timely o c.phase (neither _ _ (silent 6 (writer_signs (column_of o) false false c s) e)).0)
 

@@ -6,7 +6,7 @@ use Rattle.table.specs.declared.Search.TheVariants.{Walk}
 use Rattle.table.specs.Order.{Op, Tidy}
 use Rattle.table.proofs.Booleans.{both}
 use Rattle.table.proofs.Split.{split, under, below}
-use Rattle.table.proofs.Cases.{close_room, apply-made, apply-unlawful}
+use Rattle.table.proofs.Cases.{close_room, apply_made, apply_unlawful}
 use Rattle.table.proofs.CopyWords.{length_closed, closed_moved}
 use Rattle.table.proofs.CopyFit.{fit_applied, fit_zeros, fit_fits}
 use Rattle.table.proofs.CopyOrder.{tidy_applied, tidy_zeros}
@@ -23,7 +23,7 @@ use Rattle.read.proofs.Cases.{of_copy}
 use Rattle.write.specs.declared.Moved.{Moved}
 use Rattle.write.specs.Steps.{of_left, of_right, operated, operated_by, log_applied, over, unlogged, snapping, swapped_over, holds, stopped, poll_move, last_poll_move, step_at, step_by}
 use Rattle.write.specs.Begins.{all_lawful, logged, operated_all, logged_all, append_on}
-use Rattle.write.proofs.Cases.{snapping-cases, append_cases}
+use Rattle.write.proofs.Cases.{snapping_cases, append_cases}
 use Rattle.write.proofs.Control.{Whole, Fits, fits}
 
 -- ---- the copies
@@ -51,8 +51,8 @@ module _ (P : List ℕ → Type 0) (kept : Kept P) where
   keep_operated kind key amount w x =
       let f = fit_fits w (kept.fit w x) in
       split (lawful kind key amount)
-      (λ e. rw (operated_by, apply-made Walk kind key amount w f e) (kept.applied kind key amount w x))
-      (λ e. rw (operated_by, apply-unlawful Walk kind key amount w f e) x)
+      (λ e. rw (operated_by, apply_made Walk kind key amount w f e) (kept.applied kind key amount w x))
+      (λ e. rw (operated_by, apply_unlawful Walk kind key amount w f e) x)
 
   pub keep_operated_all : (os : List Op) (w : List ℕ) → P w → P (operated_all os w)
   keep_operated_all [] w x = x
@@ -78,10 +78,10 @@ module _ (P : List ℕ → Type 0) (f : List ℕ → List ℕ) (h : (w : List �
 
 -- ---- the log
 
-alike-lawful :
+alike_lawful :
     (g d : List ℕ) (i j : ℕ) → get_or d (3 * j) 0 ≡ get_or g (3 * i) 0 → get_or d (3 * j + 1) 0 ≡ get_or g (3 * i + 1) 0 →
     get_or d (3 * j + 2) 0 ≡ get_or g (3 * i + 2) 0 → lawful_at g i ≡ true → lawful_at d j ≡ true
-alike-lawful g d i j x y z h = (λ k. lawful (x k) (y k) (z k)) ∙ h
+alike_lawful g d i j x y z h = (λ k. lawful (x k) (y k) (z k)) ∙ h
 
 -- the first of n operations is taken off
 module _ (n : ℕ) (g : List ℕ) (some : 0 < n) (room : n ≤ log_room) (sized : length g ≡ log_words) where
@@ -96,7 +96,7 @@ module _ (n : ℕ) (g : List ℕ) (some : 0 < n) (room : n ≤ log_room) (sized 
 
   lawful_unlogged : ((i : ℕ) → i < n → lawful_at g i ≡ true) → (i : ℕ) → i < n - 1 → lawful_at (unlogged n g) i ≡ true
   lawful_unlogged h i b =
-      alike-lawful g (unlogged n g) (i + 1) i (moved_word (3 * i) (3 * (i + 1)) (omega arith) (omega arith))
+      alike_lawful g (unlogged n g) (i + 1) i (moved_word (3 * i) (3 * (i + 1)) (omega arith) (omega arith))
       (moved_word (3 * i + 1) (3 * (i + 1) + 1) (omega arith) (omega arith))
       (moved_word (3 * i + 2) (3 * (i + 1) + 2) (omega arith) (omega arith)) (h (i + 1) (omega arith))
 
@@ -127,13 +127,13 @@ module _ (n kind key amount : ℕ) (g : List ℕ) (room : n < log_room) (sized :
       get_or-set_same (set (set g (3 * n) kind) (3 * n + 1) key) (3 * n + 2) amount 0
       (rw (length-set (set g (3 * n) kind) (3 * n + 1) key, length-set g (3 * n) kind) (omega arith))
 
-  lawful-logged :
+  lawful_logged :
       lawful kind key amount ≡ true → ((i : ℕ) → i < n → lawful_at g i ≡ true) → (i : ℕ) → i < suc n →
       lawful_at (logged n kind key amount g) i ≡ true
-  lawful-logged new h i b =
+  lawful_logged new h i b =
       under i n
       (λ u.
-      alike-lawful g (logged n kind key amount g) i i (other_word (3 * i) (omega arith)) (other_word (3 * i + 1) (omega arith))
+      alike_lawful g (logged n kind key amount g) i i (other_word (3 * i) (omega arith)) (other_word (3 * i + 1) (omega arith))
       (other_word (3 * i + 2) (omega arith)) (h i u))
       (λ u.
       let e : i ≡ n = omega arith in
@@ -150,7 +150,7 @@ logs_all (o ∷ os) n g room lawfully h =
     let v = both (lawful o.kind o.key o.amount) (all_lawful os) lawfully in
     subst (λ (m : ℕ). Logs m (logged_all n (o ∷ os) g)) {x = suc n + length os} {y = n + suc (length os)} (omega arith)
     (logs_all os (suc n) (logged n o.kind o.key o.amount g) (omega arith) v.1
-    (length_logged n o.kind o.key o.amount g u h.0, lawful-logged n o.kind o.key o.amount g u h.0 v.0 h.1))
+    (length_logged n o.kind o.key o.amount g u h.0, lawful_logged n o.kind o.key o.amount g u h.0 v.0 h.1))
 
 -- ---- a step, and append
 
@@ -158,16 +158,16 @@ abbrev pub WordsOf : (List ℕ → Type 0) → Lent Moved → Type 0
 WordsOf P m = Words P m.made.control.length m.left m.right m.log
 
 -- what changes the copies alone
-words-copies :
+words_copies :
     {P : List ℕ → Type 0} {n : ℕ} {l r g : List ℕ} (right : Bool) (f : List ℕ → List ℕ) → ((w : List ℕ) → P w → P (f w)) →
     Words P n l r g → Words P n (of_left right f l) (of_right right f r) g
-words-copies {P} {l = l} {r = r} right f h w =
+words_copies {P} {l = l} {r = r} right f h w =
     record { left = keep_left P f h right l w.left; right = keep_right P f h right r w.right; log = w.log; lawfully = w.lawfully }
 
 module _ {P : List ℕ → Type 0} (kept : Kept P) (c : Control) (s : Slot) (e : ℕ) (l r g : List ℕ) (w : Words P c.length l r g) where
   words_snapping : (d : Control) (k : ℕ) → d.length ≡ c.length → Words P (snapping d k).length l r g
   words_snapping d k q =
-      snapping-cases (λ x. Words P x.length l r g) d k (λ h. subst (λ (n : ℕ). Words P n l r g) (sym q) w)
+      snapping_cases (λ x. Words P x.length l r g) d k (λ h. subst (λ (n : ℕ). Words P n l r g) (sym q) w)
       (λ h. subst (λ (n : ℕ). Words P n l r g) (sym q) w)
 
   words_stopped : (j : Job) → Words P (stopped j c s e).control.length l r g
@@ -190,10 +190,10 @@ module _ {P : List ℕ → Type 0} (kept : Kept P) (c : Control) (s : Slot) (e :
   words_step_at v Begin f = w
   words_step_at v (Poll k) f = words_poll (holds s e) k
   words_step_at v Copy f =
-      words-copies c.right (over (copy_of c.right l r))
+      words_copies c.right (over (copy_of c.right l r))
       (λ x h. keep_over P kept (copy_of c.right l r) x (of_copy P c.right w.left w.right) h) w
   words_step_at v Drain f =
-      let x = words-copies c.right (log_applied g 0) (keep_log_applied P kept g 0) w in
+      let x = words_copies c.right (log_applied g 0) (keep_log_applied P kept g 0) w in
       let some : 0 < c.length = omega (arith, v.within) in
       record {
         left = x.left;
@@ -201,7 +201,7 @@ module _ {P : List ℕ → Type 0} (kept : Kept P) (c : Control) (s : Slot) (e :
         log = length_unlogged c.length g some v.room w.log;
         lawfully = lawful_unlogged c.length g some v.room w.log w.lawfully;
       }
-  words_step_at v (Keep k) f = words-copies c.right (log_applied g k) (keep_log_applied P kept g k) w
+  words_step_at v (Keep k) f = words_copies c.right (log_applied g k) (keep_log_applied P kept g k) w
   words_step_at v Swap f = words_snapping (swapped_over c) 0 refl
   words_step_at v (Snap k) f = words_snapping c (k + 1) refl
   words_step_at v Null f = w
@@ -209,7 +209,7 @@ module _ {P : List ℕ → Type 0} (kept : Kept P) (c : Control) (s : Slot) (e :
   words_step_at v (LastSnap k) f = w
   words_step_at v (LastPoll k) f = words_last_poll (holds s e) k
   words_step_at v Finish f =
-      let x = words-copies c.right zeros kept.zeros w in
+      let x = words_copies c.right zeros kept.zeros w in
       record { left = x.left; right = x.right; log = length-replicate (length g) 0 ∙ w.log; lawfully = λ i h. absurd (omega arith) }
   words_step_at v Gone f = w
 
@@ -218,7 +218,7 @@ module _ {P : List ℕ → Type 0} (kept : Kept P) (c : Control) (s : Slot) (e :
 
   pub words_append : (os : List Op) → WordsOf P (append_on os c s e l r g)
   words_append os =
-      append_cases (WordsOf P) os c s e l r g (λ q h. words-copies c.right (operated_all os) (keep_operated_all P kept os) w)
+      append_cases (WordsOf P) os c s e l r g (λ q h. words_copies c.right (operated_all os) (keep_operated_all P kept os) w)
       (λ q u h.
       let x = logs_all os c.length g u h.lawfully (w.log, w.lawfully) in
       record { left = w.left; right = w.right; log = x.0; lawfully = x.1 })

@@ -54,7 +54,7 @@ run_while step zero n st l r g = ran_out n st l r g
 run_while step (suc k) n st l r g =
     elim (underway st.control.phase) [ true ↦ after_step (run_while step k (n + 1)) n (step st l r g) | false ↦ ran_out n st l r g ]
 
--- no call has so many steps: a run ends before them (law run-unbounded)
+-- no call has so many steps: a run ends before them (law run_unbounded)
 abbrev pub enough : ℕ
 enough = 2 ^ 64
 

@@ -17,7 +17,7 @@ use Rattle.write.specs.Steps.{at, polling, beginning}
 use Rattle.write.specs.Begins.{taking}
 use Rattle.write.proofs.Cases.{with_job}
 use Rattle.demands.specs.Account.{Move, begin, poll, copy, apply, swap, snap, each, provided, publishing, Store, unswapped, unpublished, publish_plan, plan_of}
-use Rattle.demands.proofs.Account.Plan.{from_all, last_plan, after_plan, swap_plan, polled_plan, begin_plan, plan, plan_beginning, plan-polling}
+use Rattle.demands.proofs.Account.Plan.{from_all, last_plan, after_plan, swap_plan, polled_plan, begin_plan, plan, plan_beginning, plan_polling}
 
 -- ---- over plain flags and numbers; y: the copies were synchronised
 
@@ -76,7 +76,7 @@ module _ (t : Store) (c : Control) (k : Known t c) where
 
   pub try_known : plan (at (polling c 0) (with_job Try c)) ≡ plan_of opening.Try t
   try_known =
-      plan-polling (with_job Try c) 0
+      plan_polling (with_job Try c) 0
       ∙ (λ i. from_all poll i ++ polled_plan Try (k.first i) (k.second i) (k.swap_index i) (k.in_log i))
       ∙ ap (λ (x : List Move). each poll ++ x) (polled_plan_lem Try f t.synced t.swap_index t.in_log empty ∙ append-nil _)
 
@@ -92,18 +92,18 @@ module _ (t : Store) (c : Control) (k : Known t c) where
   abbrev second : List Move
   second = provided (ltb 0 (unpublished t)) (begin ∷ publishing true false (unpublished t)) ++ last_plan
 
-  abbrev ofTake : Bool → List Move
-  ofTake b = provided b (begin ∷ publish_plan false t) ++ second
+  abbrev of_take : Bool → List Move
+  of_take b = provided b (begin ∷ publish_plan false t) ++ second
 
   pub take_known : plan (at (taking c) (with_job TakeFirst c)) ≡ plan_of opening.Take t
   take_known =
-      by (λ (p : Phase). plan (at p (with_job TakeFirst c)) ≡ ofTake (f || ltb 0 t.in_log)) (c.first || ltb 0 c.length)
+      by (λ (p : Phase). plan (at p (with_job TakeFirst c)) ≡ of_take (f || ltb 0 t.in_log)) (c.first || ltb 0 c.length)
       (λ e.
       ap (λ (x : List Move). begin ∷ x)
       (begin_known TakeFirst
       ∙ ap (λ (x : List Move). publish_plan false t ++ x) (after_plan_lem (unpublished t) (f && not t.synced) (synced_then f empty)))
-      ∙ ap ofTake (sym (same ∙ e)))
-      (λ e. ap (λ (b : Bool). provided b (begin ∷ publishing true false (unpublished t)) ++ last_plan) (sym (none_waits f (same ∙ e))) ∙ ap ofTake (sym (same ∙ e)))
+      ∙ ap of_take (sym (same ∙ e)))
+      (λ e. ap (λ (b : Bool). provided b (begin ∷ publishing true false (unpublished t)) ++ last_plan) (sym (none_waits f (same ∙ e))) ∙ ap of_take (sym (same ∙ e)))
     where
       same : (f || ltb 0 t.in_log) ≡ (c.first || ltb 0 c.length)
       same = λ i. sym k.first i || ltb 0 (sym k.in_log i)

@@ -48,7 +48,7 @@ use Rattle.write.specs.Runs.{with_move, snap_at, lift}
 use Rattle.write.specs.Machine.{call_on}
 use Rattle.write.specs.World.{World, world_of, reply, answer_of, value_of}
 use Rattle.write.specs.Numbers.{is_run}
-use Rattle.write.proofs.Verdicts.{judging, append-idle, open-idle}
+use Rattle.write.proofs.Verdicts.{judging, append_idle, open_idle}
 use Rattle.write.proofs.Control.{Whole, some_slot}
 use Rattle.write.proofs.Cases.{with_job, roomy}
 use Rattle.demands.specs.Account.{Reader, Account, leaves, frees, with_at, new_reader, turned, spoke, unswapped, unpublished, accepts, of_store, of_reader, missed, with_plan, noted}
@@ -59,14 +59,14 @@ use Rattle.demands.proofs.Shown.Invariant.{Held, reach_at, sight, seen_of, Quiet
 use Rattle.demands.proofs.Shown.Guards.{none_open, same_at, other_at, new_shut}
 use Rattle.demands.proofs.Shown.Slot.{row_after, handled_view, new_view, reload}
 use Rattle.demands.proofs.Shown.Log.{length_ops}
-use Rattle.demands.proofs.Shown.Stages.{before_null, early-empty}
-use Rattle.demands.proofs.Shown.Lifts.{with_control, at_slot, slot-keeps, both_back, free_keeps}
-use Rattle.demands.proofs.Shown.Calls.{Resting, own_quiet, first-keeps, later-keeps, publish_keeps, try_keeps, take_keeps}
+use Rattle.demands.proofs.Shown.Stages.{before_null, early_empty}
+use Rattle.demands.proofs.Shown.Lifts.{with_control, at_slot, slot_keeps, both_back, free_keeps}
+use Rattle.demands.proofs.Shown.Calls.{Resting, own_quiet, first_keeps, later_keeps, publish_keeps, try_keeps, take_keeps}
 use Rattle.demands.proofs.Sound.{SoundIn, Firm, firm}
 use Rattle.demands.proofs.Account.Moves.{leaves_any}
 use Rattle.demands.proofs.Account.Plan.{plan_none}
 use Rattle.demands.proofs.Account.Control.{stands_at, SteersOf, Stands, steers_free, flush_steers, open_steers}
-use Rattle.demands.proofs.Account.Reader.{Reads, misses, answer15, Met, handled-met}
+use Rattle.demands.proofs.Account.Reader.{Reads, misses, answer15, Met, handled_met}
 use Rattle.demands.proofs.Account.Order.{Order, OrderOf, next_is, order_alike, order_freed, order_handed}
 use Rattle.demands.proofs.Account.Rows.{answer_no, is_drop, entry_6}
 use Rattle.demands.proofs.Account.Answers.{wanted_on, wanted_past, wanted_create, wanted_append, wanted_open}
@@ -114,11 +114,11 @@ value_other a k n e lt ne = go n lt ne ∙ ap (λ (n : ℕ). elim n [ zero ↦ w
     go (suc m) lt ne = ap bit (sym (ne_eqb m 13 (λ q. ne (omega arith))))
 
 -- answers 0 and 15
-value-fifteen :
+value_fifteen :
     (a : Account) (k : Call) (b : Bool) (v x : ℕ) → x ≡ answer15 b → wanted a k ≡ answer15 b →
     v ≡ elim x [ zero ↦ worth a k | suc n ↦ 0 ] → v ≡ wanted_value a k
-value-fifteen a k true v x e z q = (q ∙ ap (λ (y : ℕ). elim y [ zero ↦ worth a k | suc n ↦ 0 ]) e) ∙ value_other a k 15 z (omega arith) (λ y. omega arith)
-value-fifteen a k false v x e z q = value_done a k v z (q ∙ ap (λ (y : ℕ). elim y [ zero ↦ worth a k | suc n ↦ 0 ]) e)
+value_fifteen a k true v x e z q = (q ∙ ap (λ (y : ℕ). elim y [ zero ↦ worth a k | suc n ↦ 0 ]) e) ∙ value_other a k 15 z (omega arith) (λ y. omega arith)
+value_fifteen a k false v x e z q = value_done a k v z (q ∙ ap (λ (y : ℕ). elim y [ zero ↦ worth a k | suc n ↦ 0 ]) e)
 
 -- ---- one slot is stored
 
@@ -193,14 +193,14 @@ module _ {w : World} {a : Account} (tie : Tie w a) where
   len = tie.sound.slots
 
   pub early : c.first ≡ true → c.length ≡ 0
-  early f = sym (length_ops c.length 0 w.log) ∙ ap length (early-empty f tie.inv.stage)
+  early f = sym (length_ops c.length 0 w.log) ∙ ap length (early_empty f tie.inv.stage)
 
   -- ---- a refusal
 
-  pub refused-right :
+  pub refused_right :
       (k : Call) → is_run k ≡ false → (x : Answer) → 3 ≤ number x → number x ≤ 13 → wanted a k ≡ number x → (st : State) → st ≡ w.state →
       Right a k (lent (record { answer = x; value = 0; state = st }) w.left w.right w.log)
-  refused-right k q x lt le z st e =
+  refused_right k q x lt le z st e =
       let n = noted_refused k a q (number x) lt le in
       record {
         answer = sym z;
@@ -212,10 +212,10 @@ module _ {w : World} {a : Account} (tie : Tie w a) where
         own = subst OwnOf (sym n) tie.own;
       }
 
-  pub mild-right :
+  pub mild_right :
       (k : Call) → is_run k ≡ false → (x : Answer) → Refusal x → wanted a k ≡ number x → (st : State) → st ≡ w.state →
       Right a k (lent (record { answer = x; value = 0; state = st }) w.left w.right w.log)
-  mild-right k q x m z st e = refused-right k q x m.0 (omega arith) z st e
+  mild_right k q x m z st e = refused_right k q x m.0 (omega arith) z st e
 
   pub solid : Firm w
   solid = firm tie.sound
@@ -225,7 +225,7 @@ module _ {w : World} {a : Account} (tie : Tie w a) where
       InvOf (with_control (with_free k c) (at_slot i s w)) (of_reader i (λ _. r) a)
   slot_inv i k lt r s quiet v =
       free_keeps k
-      (slot-keeps solid tie.inv i lt s (λ k. (with_at i r a.readers k).loaded) (other_loaded a.readers i r) quiet
+      (slot_keeps solid tie.inv i lt s (λ k. (with_at i r a.readers k).loaded) (other_loaded a.readers i r) quiet
       (subst (λ (q : Reader). ViewOf w i q.loaded s) (sym (same_at i r a.readers)) v))
 
   pub own_at : (i : ℕ) (r : Reader) → (i ≡ 0 → a.gone ≡ false → r.lives ≡ true) → OwnOf (of_reader i (λ _. r) a)
@@ -279,7 +279,7 @@ module _ {w : World} {a : Account} (tie : Tie w a) where
         own = own_at i (new_reader (a.readers i)) (λ _ _. refl);
       })
       (λ x v.
-      mild-right Create refl x (refused_mild (create_signs c) refl x v) (want ∙ ap (λ y. answer_no y 0) v) _ (slot_same i w.state))
+      mild_right Create refl x (refused_mild (create_signs c) refl x v) (want ∙ ap (λ y. answer_no y 0) v) _ (slot_same i w.state))
     where
       want : wanted a Create ≡ answer_no (smallest (create_signs c)) 0
       want = wanted_create a c tie.steers whole full_is
@@ -322,7 +322,7 @@ module _ {w : World} {a : Account} (tie : Tie w a) where
         let o = own_at i (after m) own in
         record {
           answer = x.answer ∙ sym z;
-          value = value-fifteen a (On i hd) (misses (a.readers i) hd c.null) m.value (number m.answer) x.answer z
+          value = value_fifteen a (On i hd) (misses (a.readers i) hd c.null) m.value (number m.answer) x.answer z
               (x.value ∙ ap (λ (b : Bool). elim (number m.answer) [ zero ↦ worth_on hd b (a.readers i) | suc n ↦ 0 ]) tie.steers.null);
           inv = leaves_any (InvOf (record { state = st; left = w.left; right = w.right; log = w.log })) hd n i b inv inv;
           steers = leaves_any (λ (x : Account). SteersOf x st.control) hd n i b steers steers;
@@ -374,18 +374,18 @@ module _ {w : World} {a : Account} (tie : Tie w a) where
         (λ v.
         let u = on_passed c (eqb i 0) s hd v in
         let m = handled c i s hd w.left w.right in
-        let x = handled-met a.store.published (tie.reads i) (tie.inv.each i).four c w.left w.right (tie.inv.each i).shows i hd u in
+        let x = handled_met a.store.published (tie.reads i) (tie.inv.each i).four c w.left w.right (tie.inv.each i).shows i hd u in
         met_right i lt hd m (want ∙ ap (λ y. answer_no y miss) v) (own_quiet solid tie.inv i hd m.slot u)
         (handled_view c a.store.published tie.inv.read (tie.inv.each i) (not-false _ u.slot) (unwaited i lt hd) (eqb i 0) hd u)
         (on_order i lt hd u x) (on_lives i lt hd m u x) x)
         (λ x v.
-        mild-right (On i hd) (on_other i hd).no_run x (refused_mild signs refl x v) (want ∙ ap (λ y. answer_no y miss) v) _ (slot_same i w.state))
+        mild_right (On i hd) (on_other i hd).no_run x (refused_mild signs refl x v) (want ∙ ap (λ y. answer_no y miss) v) _ (slot_same i w.state))
 
   pub handle_right : (i : ℕ) (hd : Handle) → Right a (On i hd) (reply call_on (On i hd) w)
   unfolding call_on
   handle_right i hd =
       below (λ (o : Reply). Right a (On i hd) (lent o w.left w.right w.log)) i slot_count (λ lt. on_right i lt hd)
-      (λ le. mild-right (On i hd) (on_other i hd).no_run answer.NoSlot (omega arith, omega arith) (wanted_past a c tie.steers whole i le hd) w.state refl)
+      (λ le. mild_right (On i hd) (on_other i hd).no_run answer.NoSlot (omega arith, omega arith) (wanted_past a c tie.steers whole i le hd) w.state refl)
 
   -- ---- the writer's calls that are made at once
 
@@ -432,21 +432,21 @@ module _ {w : World} {a : Account} (tie : Tie w a) where
     abbrev ApRight : Lent Moved → Type 0
     ApRight m = Right a (Append os) (lift 0 w.state m)
 
-    abbrev firstState : State
-    firstState =
+    abbrev first_state : State
+    first_state =
         with_move 0 c (with_due ((s0.epoch + 2) % 2 ^ 64) s0.due s0) e0 w.state
 
-    first_reads : (i : ℕ) → Reads (with_at 0 (turned 2 (a.readers 0).due (a.readers 0)) a.readers i) (slot_at firstState i) (snap_at firstState i)
+    first_reads : (i : ℕ) → Reads (with_at 0 (turned 2 (a.readers 0).due (a.readers 0)) a.readers i) (slot_at first_state i) (snap_at first_state i)
     first_reads =
-        subst (λ (es : List ℕ). (i : ℕ) → Reads (with_at 0 (turned 2 (a.readers 0).due (a.readers 0)) a.readers i) (slot_at firstState i) (get_or es i 0))
+        subst (λ (es : List ℕ). (i : ℕ) → Reads (with_at 0 (turned 2 (a.readers 0).due (a.readers 0)) a.readers i) (slot_at first_state i) (get_or es i 0))
         (sym (set-get_or w.state.snapshots 0 0))
         (slot_reads w.state a len tie.reads 0 some_slot _ _
         (let h = tie.reads 0 in
         record { lives = h.lives; due = h.due; guards = h.guards; epoch = omega (arith, h.epoch); snapshot = h.snapshot }))
 
     -- by whether a swap came before
-    abbrev byFirst : Bool → Account
-    byFirst b = elim b [ true ↦ of_reader 0 (λ r. turned 2 r.due r) (of_store (accepts 0 os) a) | false ↦ of_store (accepts (length os) os) a ]
+    abbrev by_first : Bool → Account
+    by_first b = elim b [ true ↦ of_reader 0 (λ r. turned 2 r.due r) (of_store (accepts 0 os) a) | false ↦ of_store (accepts (length os) os) a ]
 
     module _ (z : wanted a (Append os) ≡ 0) (rest : Resting solid tie.inv) where
       q : c.phase ≡ Idle
@@ -458,12 +458,12 @@ module _ {w : World} {a : Account} (tie : Tie w a) where
           record {
             answer = sym z;
             value = value_done a (Append os) 0 z refl;
-            steers = subst (λ (b : Bool). SteersOf (byFirst b) c) u (logged_steers c.length (a.store.in_log + 0) _ q (λ e. omega arith));
-            reads = subst (λ (b : Bool). ReadsAll (byFirst b) firstState) u first_reads;
-            order = subst (λ (b : Bool). OrderOf (byFirst b) firstState) u (order_kept 0 _ refl refl);
-            own = subst (λ (b : Bool). OwnOf (byFirst b)) u (own_at 0 (turned 2 (a.readers 0).due (a.readers 0)) (λ _. tie.own));
-            inv = subst (λ (b : Bool). InvOf (world_of (lift 0 w.state (append_first Walk os c s0 e0 w.left w.right w.log))) (byFirst b)) u
-                (loads_nothing (of_store (accepts 0 os) a) 0 (turned 2 (a.readers 0).due (a.readers 0)) refl (first-keeps solid tie.inv rest os f law));
+            steers = subst (λ (b : Bool). SteersOf (by_first b) c) u (logged_steers c.length (a.store.in_log + 0) _ q (λ e. omega arith));
+            reads = subst (λ (b : Bool). ReadsAll (by_first b) first_state) u first_reads;
+            order = subst (λ (b : Bool). OrderOf (by_first b) first_state) u (order_kept 0 _ refl refl);
+            own = subst (λ (b : Bool). OwnOf (by_first b)) u (own_at 0 (turned 2 (a.readers 0).due (a.readers 0)) (λ _. tie.own));
+            inv = subst (λ (b : Bool). InvOf (world_of (lift 0 w.state (append_first Walk os c s0 e0 w.left w.right w.log))) (by_first b)) u
+                (loads_nothing (of_store (accepts 0 os) a) 0 (turned 2 (a.readers 0).due (a.readers 0)) refl (first_keeps solid tie.inv rest os f law));
           }
 
       later_right : c.first ≡ false → c.length + length os ≤ log_room → ApRight (append_later os c s0 e0 w.left w.right w.log)
@@ -473,13 +473,13 @@ module _ {w : World} {a : Account} (tie : Tie w a) where
           record {
             answer = sym z;
             value = value_done a (Append os) 0 z refl;
-            steers = subst (λ (b : Bool). SteersOf (byFirst b) d) u
+            steers = subst (λ (b : Bool). SteersOf (by_first b) d) u
                 (logged_steers (c.length + length os) (a.store.in_log + length os) _ q (λ e. omega arith));
-            reads = subst (λ (b : Bool). ReadsAll (byFirst b) (kept_at d)) u (reads_kept d);
-            order = subst (λ (b : Bool). OrderOf (byFirst b) (kept_at d)) u (order_kept 0 s0 refl refl);
-            own = subst (λ (b : Bool). OwnOf (byFirst b)) u tie.own;
-            inv = subst (λ (b : Bool). InvOf (world_of (lift 0 w.state (append_later os c s0 e0 w.left w.right w.log))) (byFirst b)) u
-                (later-keeps solid tie.inv rest os f room);
+            reads = subst (λ (b : Bool). ReadsAll (by_first b) (kept_at d)) u (reads_kept d);
+            order = subst (λ (b : Bool). OrderOf (by_first b) (kept_at d)) u (order_kept 0 s0 refl refl);
+            own = subst (λ (b : Bool). OwnOf (by_first b)) u tie.own;
+            inv = subst (λ (b : Bool). InvOf (world_of (lift 0 w.state (append_later os c s0 e0 w.left w.right w.log))) (by_first b)) u
+                (later_keeps solid tie.inv rest os f room);
           }
 
     pub append_right : Right a (Append os) (reply call_on (Append os) w)
@@ -493,11 +493,11 @@ module _ {w : World} {a : Account} (tie : Tie w a) where
         (λ v.
         let z = want ∙ ap (λ y. answer_no y 0) v in
         let u = write_passed 7 bad full c s0 v in
-        let rest = resting (append-idle bad full c s0 v) 7 bad full u in
+        let rest = resting (append_idle bad full c s0 v) 7 bad full u in
         by ApRight c.first
         (λ f. early_right z rest f (both (leb (length os) batch_room) (all_lawful os) (not-false (lawful_batch os) u.operation)).1)
         (λ f. later_right z rest f (roomy (c.length + length os) c.first f u.log)))
-        (λ x v. mild-right (Append os) refl x (refused_mild signs refl x v) (want ∙ ap (λ y. answer_no y 0) v) (kept_at c) (move_same 0 w.state))
+        (λ x v. mild_right (Append os) refl x (refused_mild signs refl x v) (want ∙ ap (λ y. answer_no y 0) v) (kept_at c) (move_same 0 w.state))
 
   -- ---- publish, try, flush, take
 
@@ -574,5 +574,5 @@ module _ {w : World} {a : Account} (tie : Tie w a) where
       let signs = writer_signs (column_of o) false false c s0 in
       let want = wanted_open a c tie.steers whole s0 e0 (tie.reads 0) o in
       judging (OpRight o) (smallest signs)
-      (λ v. opened_right o (want ∙ ap (λ y. answer_no y 0) v) (resting (open-idle o c s0 v) (column_of o) false false (write_passed (column_of o) false false c s0 v)))
-      (λ x v. mild-right (Open o) (open_other o).no_run x (refused_mild signs refl x v) (want ∙ ap (λ y. answer_no y 0) v) (kept_at c) (move_same 0 w.state))
+      (λ v. opened_right o (want ∙ ap (λ y. answer_no y 0) v) (resting (open_idle o c s0 v) (column_of o) false false (write_passed (column_of o) false false c s0 v)))
+      (λ x v. mild_right (Open o) (open_other o).no_run x (refused_mild signs refl x v) (want ∙ ap (λ y. answer_no y 0) v) (kept_at c) (move_same 0 w.state))

@@ -21,12 +21,12 @@ use Rattle.write.specs.declared.Opening.TheVariants as opening
 use Rattle.write.specs.Steps.{at, swapped_over, next_job, keeping, draining, polled, polling, beginning, published, last_polling, last_snapping, snapping, holds, poll_move, last_poll_move, step_at, step_by}
 use Rattle.write.specs.Begins.{taking, opened}
 use Rattle.write.specs.Numbers.{is_try}
-use Rattle.write.proofs.Cases.{keeping_cases, draining_cases, polled-cases, polling_cases, beginning_cases, last_polling_cases, last_snapping_cases, snapping-cases, with_job}
+use Rattle.write.proofs.Cases.{keeping_cases, draining_cases, polled_cases, polling_cases, beginning_cases, last_polling_cases, last_snapping_cases, snapping_cases, with_job}
 use Rattle.write.proofs.Control.{Whole, Fits, fits}
 use Rattle.demands.specs.Account.{Move, null, Store, unswapped, is_odd, Account, with_plan, advanced, on_swap, asked, begins as opening_of}
 use Rattle.demands.proofs.Account.Moves.{makes}
 use Rattle.demands.proofs.Phases.{is_try_job}
-use Rattle.demands.proofs.Account.Plan.{move_of, plan, plan_free, step-plan, not_made}
+use Rattle.demands.proofs.Account.Plan.{move_of, plan, plan_free, step_plan, not_made}
 use Rattle.demands.proofs.Account.Beginnings.{Known, publish_known, try_known, take_known}
 
 -- ---- where the writer stands
@@ -129,7 +129,7 @@ module _ (c : Control) (m o : ℕ) (trial : Bool) (early : c.first ≡ true → 
 
     st_polled : StC (polled c)
     st_polled =
-        polled-cases StC c
+        polled_cases StC c
         (λ e. let z = early e in here refl refl (omega arith, omega arith))
         (λ e d. here refl refl (a, b)) (λ e d. st_draining c.length c.swapped m o trial same_unpublished)
 
@@ -160,12 +160,12 @@ onto : {n s m o : ℕ} {trial g gone : Bool} {p : Phase} → g ≡ gone → Stan
 onto q x = record { log = x.log; last = x.last; over = x.over ∙ q }
 
 -- the snapshots, and what follows
-snapping-steers :
+snapping_steers :
     (t : Store) {trial taken gone : Bool} (c : Control) (k : ℕ) → c.first ≡ unswapped t → c.second ≡ not t.synced → c.right ≡ is_odd t.swaps → c.null ≡ taken →
     is_try_job c.job ≡ trial → c.length ≡ t.in_log → c.swapped ≡ t.swap_index → false ≡ gone →
     Steers t (plan (snapping c k)) trial taken gone (snapping c k)
-snapping-steers t {trial} {taken} {gone} c k f s d n j a b q =
-    snapping-cases (λ d. Steers t (plan d) trial taken gone d) c k
+snapping_steers t {trial} {taken} {gone} c k f s d n j a b q =
+    snapping_cases (λ d. Steers t (plan d) trial taken gone d) c k
     (λ _. record { first = f; second = s; side = d; null = n; tries = j; left = refl; stands = onto q (here refl refl (a, b)) })
     (λ _.
     record {
@@ -222,10 +222,10 @@ module _ (a : Account) (c : Control) (h : SteersOf a c) (w : Whole c) (early : c
         }
     after_at (Keep k) x z f = goes c h (keeping c.length (k + 1)) (onto x.over (st_keeping c.length c.swapped a.store.in_log a.store.swap_index a.trial (k + 1) x.log.0 x.log.1))
     after_at Swap x z f =
-        snapping-steers (on_swap a.store) (swapped_over c) 0 (sym (eqb-suc-zero a.store.swaps)) h.second (ap not h.side ∙ side_turns a.store.swaps) h.null h.tries x.log.1 x.log.1
+        snapping_steers (on_swap a.store) (swapped_over c) 0 (sym (eqb-suc-zero a.store.swaps)) h.second (ap not h.side ∙ side_turns a.store.swaps) h.null h.tries x.log.1 x.log.1
         x.over
     after_at (Snap k) x z f =
-        snapping-steers a.store c (k + 1) h.first h.second h.side h.null h.tries x.log.0 x.log.1 x.over
+        snapping_steers a.store c (k + 1) h.first h.second h.side h.null h.tries x.log.0 x.log.1 x.over
     after_at Null x z f =
         record { first = h.first; second = h.second; side = h.side; null = refl; tries = h.tries; left = refl; stands = record { log = tt; last = λ _. x.last refl; over = x.over } }
     after_at Lock x z f = goes c h (last_snapping 0) (onto x.over (st_last_snapping c.length c.swapped a.store.in_log a.store.swap_index a.trial 0 (x.last refl)))
@@ -236,11 +236,11 @@ module _ (a : Account) (c : Control) (h : SteersOf a c) (w : Whole c) (early : c
     after_at Gone x z f = absurd (omega arith)
 
     -- the account makes the same step
-    pub step-steers :
+    pub step_steers :
         number (step_at c.phase c s e l r g).made.answer ≡ 0 → SteersOf (advanced a.plan a) (step_at c.phase c s e l r g).made.control
-    step-steers z =
+    step_steers z =
         subst (λ (ms : List Move). SteersOf (advanced ms a) (step_at c.phase c s e l r g).made.control)
-        (sym (h.left ∙ step-plan c s e w l r g z)) (after_at c.phase h.stands z (fits w))
+        (sym (h.left ∙ step_plan c s e w l r g z)) (after_at c.phase h.stands z (fits w))
 
 -- ---- a call that begins
 

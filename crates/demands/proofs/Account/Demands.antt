@@ -40,7 +40,7 @@ use Rattle.demands.proofs.Sides.{read_copy, write_copy}
 use Rattle.demands.proofs.Shown.Invariant.{seen_of, Stage, ops_of}
 use Rattle.demands.proofs.Shown.Guards.{open_below, all_shut, other_at, new_shut}
 use Rattle.demands.proofs.Shown.Slot.{guard_inside}
-use Rattle.demands.proofs.Shown.Stages.{gone-stage}
+use Rattle.demands.proofs.Shown.Stages.{gone_stage}
 use Rattle.demands.proofs.Shown.Fresh.{fresh_inv}
 use Rattle.demands.proofs.Sound.{of_rule, sound_next}
 use Rattle.demands.proofs.Shown.Lifts.{gone_shut}
@@ -255,7 +255,7 @@ module _ {w : World} {a : Account} (h : Tie w a) where
       let t = seen_of a in
       let e = gone_is c.phase (h.steers.stands.over ∙ g) in
       let side = sym h.steers.side in
-      let (acc, none) = gone-stage (subst
+      let (acc, none) = gone_stage (subst
       (λ (p : Phase). Stage p c.job c.second c.swapped (ops_of w) (read_copy w) (write_copy w) t.accepted t.published c.first)
       e h.inv.stage) in
       record {

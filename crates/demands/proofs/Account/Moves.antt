@@ -44,24 +44,24 @@ pub record Plain (P : Account → Type 0) (a : Account) : Type 0 where
   pub copied : P (of_store on_copy a)
   pub nulled : P (with_end true a.gone a)
 
-pub each-move :
+pub each_move :
     (P : Account → Type 0) (a : Account) (x : Move) → (is_swap x ≡ false → is_snap x ≡ false → is_finish x ≡ false → Plain P a) →
     (x ≡ swap → P (of_store on_swap a)) → ((i : ℕ) → x ≡ snap i → P (of_reader i reads_epoch a)) →
     (x ≡ finish → P (makes finish a)) → P (makes x a)
-each-move P a begin h s r f = (h refl refl refl).same
-each-move P a (poll i) h s r f = (h refl refl refl).same
-each-move P a copy h s r f = (h refl refl refl).copied
-each-move P a apply h s r f = (h refl refl refl).same
-each-move P a swap h s r f = s refl
-each-move P a (snap i) h s r f = r i refl
-each-move P a null h s r f = (h refl refl refl).nulled
-each-move P a lock h s r f = (h refl refl refl).same
-each-move P a finish h s r f = f refl
+each_move P a begin h s r f = (h refl refl refl).same
+each_move P a (poll i) h s r f = (h refl refl refl).same
+each_move P a copy h s r f = (h refl refl refl).copied
+each_move P a apply h s r f = (h refl refl refl).same
+each_move P a swap h s r f = s refl
+each_move P a (snap i) h s r f = r i refl
+each_move P a null h s r f = (h refl refl refl).nulled
+each_move P a lock h s r f = (h refl refl refl).same
+each_move P a finish h s r f = f refl
 
 -- what none of them changes
 pub no_move : (P : Account → Type 0) (a : Account) → P a → P (of_store on_copy a) → P (of_store on_swap a) → P (with_end true a.gone a) →
     ((i : ℕ) → P (of_reader i reads_epoch a)) → P (makes finish a) → (x : Move) → P (makes x a)
-no_move P a h c s n r f x = each-move P a x (λ _ _ _. record { same = h; copied = c; nulled = n }) (λ _. s) (λ i _. r i) (λ _. f)
+no_move P a h c s n r f x = each_move P a x (λ _ _ _. record { same = h; copied = c; nulled = n }) (λ _. s) (λ i _. r i) (λ _. f)
 
 -- what holds of the account whose plan is the rest, with each step made in it
 pub advanced_rest : (a : Account) (x : Move) (xs : List Move) → (advanced (x ∷ xs) a).plan ≡ xs

@@ -34,6 +34,7 @@ pub data Freed (ss : List Slot) (e : ℕ) : ℕ → List ℕ → Type 0 where
   first : {i : ℕ} {is : List ℕ} → i < e → (at ss i).used ≡ false → ¬ (Memᴰ i is) → Freed ss e (behind i (at ss i).link) is → Freed ss e i (i ∷ is)
 
 freed_vacant : {ss : List Slot} {e k : ℕ} {is : List ℕ} → Freed ss e k is → (j : ℕ) → Memᴰ j is → (at ss j).used ≡ false
+freed_vacant none j m = elim m [ ]
 freed_vacant {ss} (first l u n f) j (mathlib.Core.List.Memᴰ.head p) = subst (λ (x : ℕ). (at ss x).used ≡ false) (sym p) u
 freed_vacant (first l u n f) j (mathlib.Core.List.Memᴰ.tail m) = freed_vacant f j m
 

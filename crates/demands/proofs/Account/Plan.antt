@@ -19,7 +19,7 @@ use Rattle.read.specs.declared.Control.{Control}
 use Rattle.read.specs.Machine.{slot_count, with_free, underway}
 use Rattle.read.proofs.Phases.{idle_or_gone}
 use Rattle.write.specs.Steps.{at, with_log, copied, swapped_over, next_job, keeping, draining, polled, polling, beginning, published, last_polling, last_snapping, snapping, holds, stopped, poll_move, last_poll_move, step_at, step_by}
-use Rattle.write.proofs.Cases.{keeping_cases, draining_cases, polled-cases, polling_cases, beginning_cases, last_polling_cases, last_snapping_cases, snapping-cases, with_job}
+use Rattle.write.proofs.Cases.{keeping_cases, draining_cases, polled_cases, polling_cases, beginning_cases, last_polling_cases, last_snapping_cases, snapping_cases, with_job}
 use Rattle.write.proofs.Control.{Whole, Fits, fits}
 use Rattle.demands.specs.Account.{Move, begin, poll, copy, apply, swap, snap, null, lock, finish, up_from, each, provided}
 
@@ -158,23 +158,23 @@ module _ (c : Control) where
 
   plan_polled : Left (polled_plan c.job c.first c.second c.swapped c.length) (polled c)
   plan_polled =
-      polled-cases (Left _) c
+      polled_cases (Left _) c
       (λ e. ap (λ (f : Bool). polled_plan c.job f c.second c.swapped c.length) (sym e))
       (λ e d. λ i. polled_plan c.job (sym e i) (sym d i) c.swapped c.length)
       (λ e d.
       plan_draining ∙ ap (drain_plan c.job c.swapped c.length) d
       ∙ (λ i. polled_plan c.job (sym e i) (sym d i) c.swapped c.length))
 
-  pub plan-polling :
+  pub plan_polling :
       (k : ℕ) → Left (from k poll ++ polled_plan c.job c.first c.second c.swapped c.length) (polling c k)
-  plan-polling k = polling_cases (Left _) c k (λ u. refl) (λ u. rw (from_none k poll u) plan_polled)
+  plan_polling k = polling_cases (Left _) c k (λ u. refl) (λ u. rw (from_none k poll u) plan_polled)
 
   pub plan_beginning : Left (begin_plan c.job c.first c.second c.swapped c.length) (beginning c)
   plan_beginning =
       beginning_cases (Left _) c
       (λ e. ap (λ (f : Bool). begin_plan c.job f c.second c.swapped c.length) (sym e))
       (λ e.
-      plan-polling 0 ∙ ap₂ (λ (x : List Move) (f : Bool). x ++ polled_plan c.job f c.second c.swapped c.length) (from_all poll) e
+      plan_polling 0 ∙ ap₂ (λ (x : List Move) (f : Bool). x ++ polled_plan c.job f c.second c.swapped c.length) (from_all poll) e
       ∙ ap (λ (f : Bool). begin_plan c.job f c.second c.swapped c.length) (sym e))
 
   plan_last_polling : (k : ℕ) → Left (from k poll ++ (finish ∷ [])) (last_polling k)
@@ -196,19 +196,19 @@ none_after : (n : ℕ) (f b : Bool) → n ≤ 0 → last_plan ≡ after_plan Tak
 none_after zero f b h = refl
 none_after (suc n) f b h = absurd (omega arith)
 
-plan-published :
+plan_published :
     (c : Control) (j : Job) → plan (at (published j c.length) (with_job (next_job j) c)) ≡ after_plan j c.length c.first c.second
-plan-published c Publish = refl
-plan-published c Try = refl
-plan-published c TakeFirst =
+plan_published c Publish = refl
+plan_published c Try = refl
+plan_published c TakeFirst =
     below (λ (p : Phase). plan (at p (with_job TakeSecond c)) ≡ after_plan TakeFirst c.length c.first c.second) 0 c.length
     (λ h. again c.first c.second c.swapped c.length h) (λ h. none_after c.length c.first c.second h)
-plan-published c TakeSecond = refl
+plan_published c TakeSecond = refl
 
 plan_snapping : (c : Control) (k : ℕ) → plan (snapping c k) ≡ snap_plan k c.job c.length c.first c.second
 plan_snapping c k =
-    snapping-cases (λ d. plan d ≡ snap_plan k c.job c.length c.first c.second) c k (λ h. refl)
-    (λ h. rw (from_none k snap h) (plan-published c c.job))
+    snapping_cases (λ d. plan d ≡ snap_plan k c.job c.length c.first c.second) c k (λ h. refl)
+    (λ h. rw (from_none k snap h) (plan_published c c.job))
 
 -- ---- a step that is made
 
@@ -220,51 +220,51 @@ not_made TakeFirst c s e z = omega arith
 not_made TakeSecond c s e z = omega arith
 
 module _ (c : Control) (s : Slot) (e : ℕ) where
-  next-poll :
+  next_poll :
       (held : Bool) (k : ℕ) → k < slot_count → number (poll_move held k c s e).answer ≡ 0 →
       plan_at (Poll k) c ≡ poll k ∷ plan (poll_move held k c s e).control
-  next-poll true k h z = absurd (not_made c.job c s e z)
-  next-poll false k h z = rw (from_next k poll h) (ap (λ (x : List Move). poll k ∷ x) (sym (plan-polling c (k + 1))))
+  next_poll true k h z = absurd (not_made c.job c s e z)
+  next_poll false k h z = rw (from_next k poll h) (ap (λ (x : List Move). poll k ∷ x) (sym (plan_polling c (k + 1))))
 
-  next-lastPoll :
+  next_last_poll :
       (held : Bool) (k : ℕ) → k < slot_count → number (last_poll_move held k c s e).answer ≡ 0 →
       plan_at (LastPoll k) c ≡ poll k ∷ plan (last_poll_move held k c s e).control
-  next-lastPoll true k h z = absurd (omega arith)
-  next-lastPoll false k h z = rw (from_next k poll h) (ap (λ (x : List Move). poll k ∷ x) (sym (plan_last_polling c (k + 1))))
+  next_last_poll true k h z = absurd (omega arith)
+  next_last_poll false k h z = rw (from_next k poll h) (ap (λ (x : List Move). poll k ∷ x) (sym (plan_last_polling c (k + 1))))
 
   module _ (w : Whole c) (l r g : List ℕ) where
-    next-at :
+    next_at :
         (p : Phase) → Fits c.length c.swapped c.null p → number (step_at p c s e l r g).made.answer ≡ 0 →
         plan_at p c ≡ move_of p ∷ plan (step_at p c s e l r g).made.control
     unfolding step_by
-    next-at Idle f z = absurd (omega arith)
-    next-at Begin f z = ap (λ (x : List Move). begin ∷ x) (sym (plan_beginning c))
-    next-at (Poll k) f z = next-poll (holds s e) k f.0 z
-    next-at Copy f z = ap (λ (x : List Move). copy ∷ x) (sym (plan_draining (copied c)))
-    next-at Drain f z =
+    next_at Idle f z = absurd (omega arith)
+    next_at Begin f z = ap (λ (x : List Move). begin ∷ x) (sym (plan_beginning c))
+    next_at (Poll k) f z = next_poll (holds s e) k f.0 z
+    next_at Copy f z = ap (λ (x : List Move). copy ∷ x) (sym (plan_draining (copied c)))
+    next_at Drain f z =
         let m : c.length - c.swapped ≡ c.length - 1 - (c.swapped - 1) = omega (arith, w.within) in
         let q : 0 < c.length = omega (arith, w.within) in
         rw (some_more c.length q, m) (ap (λ (x : List Move). apply ∷ x) (sym (plan_draining (with_log (c.length - 1) (c.swapped - 1) c))))
-    next-at (Keep k) f z =
+    next_at (Keep k) f z =
         let m : c.length - k - 1 ≡ c.length - (k + 1) = omega arith in
         rw (some_more (c.length - k) (omega arith), m) (ap (λ (x : List Move). apply ∷ x) (sym (plan_keeping c (k + 1))))
-    next-at Swap f z =
+    next_at Swap f z =
         ap (λ (x : List Move). swap ∷ x)
         (ap (λ (x : List Move). x ++ after_plan c.job c.length false c.second) (sym (from_all snap)) ∙ sym (plan_snapping (swapped_over c) 0))
-    next-at (Snap k) f z = rw (from_next k snap f.0) (ap (λ (x : List Move). snap k ∷ x) (sym (plan_snapping c (k + 1))))
-    next-at Null f z = refl
-    next-at Lock f z =
+    next_at (Snap k) f z = rw (from_next k snap f.0) (ap (λ (x : List Move). snap k ∷ x) (sym (plan_snapping c (k + 1))))
+    next_at Null f z = refl
+    next_at Lock f z =
         ap (λ (x : List Move). lock ∷ x)
         (ap (λ (x : List Move). x ++ (each poll ++ (finish ∷ []))) (sym (from_all snap)) ∙ sym (plan_last_snapping c 0))
-    next-at (LastSnap k) f z = rw (from_next k snap f.0) (ap (λ (x : List Move). snap k ∷ x) (sym (plan_last_snapping c (k + 1))))
-    next-at (LastPoll k) f z = next-lastPoll (holds s e) k f.0 z
-    next-at Finish f z = refl
-    next-at Gone f z = absurd (omega arith)
+    next_at (LastSnap k) f z = rw (from_next k snap f.0) (ap (λ (x : List Move). snap k ∷ x) (sym (plan_last_snapping c (k + 1))))
+    next_at (LastPoll k) f z = next_last_poll (holds s e) k f.0 z
+    next_at Finish f z = refl
+    next_at Gone f z = absurd (omega arith)
 
-    pub step-plan :
+    pub step_plan :
         number (step_at c.phase c s e l r g).made.answer ≡ 0 →
         plan c ≡ move_of c.phase ∷ plan (step_at c.phase c s e l r g).made.control
-    step-plan z = next-at c.phase (fits w) z
+    step_plan z = next_at c.phase (fits w) z
 
 -- ---- where a call is under way, its first step is the phase's
 

@@ -28,7 +28,7 @@ use Rattle.write.specs.Steps.{holds, seen}
 use Rattle.demands.specs.Account.{delays, Reader, with_at, lowest, inside, reader as reader_of, dropped, turned, opens, closes, reads_epoch, spoke, quits}
 use Rattle.demands.specs.Table.{worth_on}
 use Rattle.demands.proofs.Passed.{OnPassed}
-use Rattle.demands.proofs.Shown.Guards.{same_at, other_at, has_room, open_below, all_shut, at-put}
+use Rattle.demands.proofs.Shown.Guards.{same_at, other_at, has_room, open_below, all_shut, at_put}
 use Rattle.demands.proofs.Shown.Slot.{row_after}
 use Rattle.demands.proofs.Account.Rows.{is_drop}
 
@@ -106,13 +106,13 @@ module _ (os : List Op) {r : Reader} {s : Slot} {e : ℕ} (h : Reads r s e) (fou
         due = refl;
         epoch = h.epoch;
         snapshot = h.snapshot;
-        guards = at-put s.guards four k (open_on right) (has_room s.guards room) (λ j a b. a ≡ with_at k true r.guards j)
+        guards = at_put s.guards four k (open_on right) (has_room s.guards room) (λ j a b. a ≡ with_at k true r.guards j)
             (sym (same_at k true r.guards)) (λ j ne. h.guards j ∙ sym (other_at k true r.guards j ne));
       }
 
   closed : (j : ℕ) → is_open s.guards j ≡ true → (i : ℕ) → is_open (put_guard j shut s.guards) i ≡ with_at j false r.guards i
   closed j o =
-      at-put s.guards four j shut (open_below s.guards j o) (λ i a b. a ≡ with_at j false r.guards i)
+      at_put s.guards four j shut (open_below s.guards j o) (λ i a b. a ≡ with_at j false r.guards i)
       (sym (same_at j false r.guards)) (λ i ne. h.guards i ∙ sym (other_at j false r.guards i ne))
 
   abbrev without : ℕ → List Guard
@@ -219,18 +219,18 @@ module _ (os : List Op) {r : Reader} {s : Slot} {e : ℕ} (h : Reads r s e) (fou
         }
 
     -- every handle call that is admitted
-    pub handled-met :
+    pub handled_met :
         (l rr : List ℕ) → ((j : ℕ) → is_open s.guards j ≡ true → copy_of (stands_right s.guards j) l rr ≡ after (r.loaded j) empty) →
         (i : ℕ) (hd : Handle) → OnPassed c (eqb i 0) s hd →
         (let m = handled c i s hd l rr in Met c (spoke hd (number m.answer) m.value os r) (misses r hd c.null) (worth_on hd c.null r) hd m)
     unfolding handled_by
-    handled-met l rr shows i Drop u =
+    handled_met l rr shows i Drop u =
         record { reads = freed_reads c.free; answer = refl; value = refl; row = λ j o. refl; stays = λ n. clash refl n }
-    handled-met l rr shows i Enter u = enter_met u.fewer
-    handled-met l rr shows i GoOn u =
+    handled_met l rr shows i Enter u = enter_met u.fewer
+    handled_met l rr shows i GoOn u =
         subst (λ (d : Due). (let m = went_on c s.due s in Met c (spoke GoOn (number m.answer) m.value os r) (c.null || not (is_load d)) (lowest r) GoOn m))
         h.due (go_met s.due refl (not-false _ (neither (eqb (entry c.phase (column GoOn (eqb i 0))) 6) _ u.timely).1) (lacks_none _ _ _ u.fewer))
-    handled-met l rr shows i (Release j) u = record { reads = released_reads j (not-false _ u.guard); answer = refl; value = refl; row = last_row (inside (closes j r)); stays = λ _. (refl, refl, refl) }
+    handled_met l rr shows i (Release j) u = record { reads = released_reads j (not-false _ u.guard); answer = refl; value = refl; row = last_row (inside (closes j r)); stays = λ _. (refl, refl, refl) }
       where
         last : Bool → Reader
         last b = elim b [ true ↦ closes j r | false ↦ turned 1 r.due (closes j r) ]
@@ -238,7 +238,7 @@ module _ (os : List Op) {r : Reader} {s : Slot} {e : ℕ} (h : Reads r s e) (fou
         last_row : (b : Bool) (k : ℕ) → (last b).guards k ≡ true → r.loaded k ≡ (last b).loaded k
         last_row true k o = refl
         last_row false k o = refl
-    handled-met l rr shows i (LookUp j key) u =
+    handled_met l rr shows i (LookUp j key) u =
         let o = not-false _ u.guard in
         record {
           reads = h;
@@ -247,7 +247,7 @@ module _ (os : List Op) {r : Reader} {s : Slot} {e : ℕ} (h : Reads r s e) (fou
           stays = λ _. (refl, refl, refl);
           value = ap (λ (x : List ℕ). get_or (look_rule key x) 1 0) (shows j o);
         }
-    handled-met l rr shows i WasDropped u = record { reads = h; answer = refl; value = bit_elim c.null; row = λ j o. refl; stays = λ _. (refl, refl, refl) }
+    handled_met l rr shows i WasDropped u = record { reads = h; answer = refl; value = bit_elim c.null; row = λ j o. refl; stays = λ _. (refl, refl, refl) }
       where
         bit_elim : (n : Bool) → bit n ≡ bit n
         bit_elim n = refl

@@ -29,7 +29,7 @@ use Rattle.read.proofs.Verdicts.{refused_mild}
 use Rattle.write.specs.declared.Moved.{Moved}
 use Rattle.write.specs.Call.{Step}
 use Rattle.write.specs.Steps.{holds, seen, vacated, first_then, swapped_over, snapping, poll_move, last_poll_move, step_at, step_by}
-use Rattle.write.proofs.Cases.{snapping-cases}
+use Rattle.write.proofs.Cases.{snapping_cases}
 use Rattle.write.specs.Begins.{step_signs}
 use Rattle.write.specs.Scans.{polls}
 use Rattle.write.specs.Runs.{snap_at, lift, step_on}
@@ -40,17 +40,17 @@ use Rattle.write.proofs.Control.{Fits, fits, some_slot, whole_step}
 use Rattle.write.proofs.Left.{outcome, step_answer, Stepped, done, held, declined, declined_move, step_stepped, step_value}
 use Rattle.demands.specs.Account.{Reader, Account, Move, null, with_at, of_reader, reads_epoch, dropped, with_plan, advanced, noted}
 use Rattle.demands.specs.Table.{least, meets_reader, wanted, wanted_value, worth}
-use Rattle.demands.proofs.Account.Moves.{makes, meets, is_swap, each-move}
+use Rattle.demands.proofs.Account.Moves.{makes, meets, is_swap, each_move}
 use Rattle.demands.proofs.Shown.Guards.{same_at, other_at}
 use Rattle.demands.proofs.Shown.Invariant.{sight, seen_of, after_move, Inv}
 use Rattle.demands.proofs.Shown.Steps.{Next, step_on_keeps}
-use Rattle.demands.proofs.Account.Plan.{move_of, plan, plan_head, step-plan, not_made}
-use Rattle.demands.proofs.Account.Control.{StandsOf, SteersOf, Stands, is_last, step-steers}
+use Rattle.demands.proofs.Account.Plan.{move_of, plan, plan_head, step_plan, not_made}
+use Rattle.demands.proofs.Account.Control.{StandsOf, SteersOf, Stands, is_last, step_steers}
 use Rattle.demands.proofs.Account.Reader.{Reads, is_delays, seen_reads}
 use Rattle.demands.proofs.Account.Order.{Order, OrderOf, order_freed}
 use Rattle.demands.proofs.Account.Rows.{answer_no, is_busy, plan_busy}
 use Rattle.demands.proofs.Account.Answers.{stops, wanted_step}
-use Rattle.demands.proofs.Account.Calls.{move_same, InvOf, ReadsAll, OwnOf, Tie, Right, solid, own_at, order_kept, value_done, slot_reads, same_loaded, refused-right, mild-right, whole, len, early}
+use Rattle.demands.proofs.Account.Calls.{move_same, InvOf, ReadsAll, OwnOf, Tie, Right, solid, own_at, order_kept, value_done, slot_reads, same_loaded, refused_right, mild_right, whole, len, early}
 use Rattle.demands.proofs.Phases.{is_try_job}
 
 -- ---- the polled slot
@@ -75,7 +75,7 @@ module _ (a : Account) (st : State) (rd : ReadsAll a st) where
 -- what the invariant looks at in the account, after a step
 moved_seen : (x : Move) (a : Account) → seen_of (makes x a) ≡ after_move x (seen_of a)
 moved_seen x a =
-    each-move (λ b. seen_of b ≡ after_move x (seen_of a)) a x
+    each_move (λ b. seen_of b ≡ after_move x (seen_of a)) a x
     (λ p _ _. record { same = sym (stays p); copied = sym (stays p); nulled = sym (stays p) })
     (λ q. sym (ap (λ (y : Move). after_move y (seen_of a)) q))
     (λ i q. loads i (reads_epoch (a.readers i)) (by (λ (s : Reader). s.loaded ≡ (a.readers i).loaded) (a.readers i).lives (λ _. refl) (λ _. refl)) ∙ sym (stays (ap is_swap q)))
@@ -102,11 +102,11 @@ module _ {w : World} {a : Account} (tie : Tie w a) where
   abbrev slot : Phase → Slot
   slot p = slot_at st (place p)
 
-  abbrev snapOf : Phase → ℕ
-  snapOf p = snap_at st (place p)
+  abbrev snap_of : Phase → ℕ
+  snap_of p = snap_at st (place p)
 
   abbrev after : Phase → Moved
-  after p = (step_at p c (slot p) (snapOf p) w.left w.right w.log).made
+  after p = (step_at p c (slot p) (snap_of p) w.left w.right w.log).made
 
   -- ---- a made step, by its phase: the readers
 
@@ -148,12 +148,12 @@ module _ {w : World} {a : Account} (tie : Tie w a) where
       (λ u. record { lives = refl; due = h.due; guards = h.guards; epoch = h.epoch; snapshot = h.snapshot })
       (λ u. record { lives = u; due = h.due; guards = h.guards; epoch = h.epoch; snapshot = h.snapshot })))
 
-  moves_poll : (held : Bool) (k : ℕ) → number (poll_move held k c (slot (Poll k)) (snapOf (Poll k))).answer ≡ 0 → Moves (Poll k) (poll_move held k c (slot (Poll k)) (snapOf (Poll k)))
-  moves_poll true k z = absurd (not_made c.job c (slot (Poll k)) (snapOf (Poll k)) z)
+  moves_poll : (held : Bool) (k : ℕ) → number (poll_move held k c (slot (Poll k)) (snap_of (Poll k))).answer ≡ 0 → Moves (Poll k) (poll_move held k c (slot (Poll k)) (snap_of (Poll k)))
+  moves_poll true k z = absurd (not_made c.job c (slot (Poll k)) (snap_of (Poll k)) z)
   moves_poll false k z = λ ms. reads_back k
 
-  moves_last_poll : (held : Bool) (k : ℕ) → number (last_poll_move held k c (slot (LastPoll k)) (snapOf (LastPoll k))).answer ≡ 0 →
-      Moves (LastPoll k) (last_poll_move held k c (slot (LastPoll k)) (snapOf (LastPoll k)))
+  moves_last_poll : (held : Bool) (k : ℕ) → number (last_poll_move held k c (slot (LastPoll k)) (snap_of (LastPoll k))).answer ≡ 0 →
+      Moves (LastPoll k) (last_poll_move held k c (slot (LastPoll k)) (snap_of (LastPoll k)))
   moves_last_poll true k z = absurd (omega arith)
   moves_last_poll false k z = λ ms. reads_back k
 
@@ -161,7 +161,7 @@ module _ {w : World} {a : Account} (tie : Tie w a) where
   unfolding step_by
   moves_at Idle f z = absurd (omega arith)
   moves_at Begin f z = λ ms. reads_back 0
-  moves_at (Poll k) f z = moves_poll (holds (slot (Poll k)) (snapOf (Poll k))) k z
+  moves_at (Poll k) f z = moves_poll (holds (slot (Poll k)) (snap_of (Poll k))) k z
   moves_at Copy f z = λ ms. reads_back 0
   moves_at Drain f z = λ ms. reads_back 0
   moves_at (Keep k) f z = λ ms. reads_back 0
@@ -170,7 +170,7 @@ module _ {w : World} {a : Account} (tie : Tie w a) where
   moves_at Null f z = λ ms. reads_back 0
   moves_at Lock f z = λ ms. reads_back 0
   moves_at (LastSnap k) f z = λ ms. reads_snapped k f.0
-  moves_at (LastPoll k) f z = moves_last_poll (holds (slot (LastPoll k)) (snapOf (LastPoll k))) k z
+  moves_at (LastPoll k) f z = moves_last_poll (holds (slot (LastPoll k)) (snap_of (LastPoll k))) k z
   moves_at Finish f z = λ ms. reads_freed
   moves_at Gone f z = absurd (omega arith)
 
@@ -184,12 +184,12 @@ module _ {w : World} {a : Account} (tie : Tie w a) where
   order_back : (k : ℕ) → Order a.slots.freed a.slots.used c.free (set st.slots k (slot_at st k))
   order_back k = order_kept tie k (slot_at st k) refl refl
 
-  orders_poll : (held : Bool) (k : ℕ) → number (poll_move held k c (slot (Poll k)) (snapOf (Poll k))).answer ≡ 0 → Orders (Poll k) (poll_move held k c (slot (Poll k)) (snapOf (Poll k)))
-  orders_poll true k z = absurd (not_made c.job c (slot (Poll k)) (snapOf (Poll k)) z)
+  orders_poll : (held : Bool) (k : ℕ) → number (poll_move held k c (slot (Poll k)) (snap_of (Poll k))).answer ≡ 0 → Orders (Poll k) (poll_move held k c (slot (Poll k)) (snap_of (Poll k)))
+  orders_poll true k z = absurd (not_made c.job c (slot (Poll k)) (snap_of (Poll k)) z)
   orders_poll false k z = λ ms. order_back k
 
-  orders_last_poll : (held : Bool) (k : ℕ) → number (last_poll_move held k c (slot (LastPoll k)) (snapOf (LastPoll k))).answer ≡ 0 →
-      Orders (LastPoll k) (last_poll_move held k c (slot (LastPoll k)) (snapOf (LastPoll k)))
+  orders_last_poll : (held : Bool) (k : ℕ) → number (last_poll_move held k c (slot (LastPoll k)) (snap_of (LastPoll k))).answer ≡ 0 →
+      Orders (LastPoll k) (last_poll_move held k c (slot (LastPoll k)) (snap_of (LastPoll k)))
   orders_last_poll true k z = absurd (omega arith)
   orders_last_poll false k z = λ ms. order_back k
 
@@ -197,7 +197,7 @@ module _ {w : World} {a : Account} (tie : Tie w a) where
   orders_snapping : (d : Control) (n k : ℕ) → d.free ≡ c.free → Order a.slots.freed a.slots.used (snapping d n).free (set st.slots k (slot_at st k))
   orders_snapping d n k e =
       let back = subst (λ (x : ℕ). Order a.slots.freed a.slots.used x (set st.slots k (slot_at st k))) (sym e) (order_back k) in
-      snapping-cases (λ x. Order a.slots.freed a.slots.used x.free (set st.slots k (slot_at st k))) d n (λ _. back) (λ _. back)
+      snapping_cases (λ x. Order a.slots.freed a.slots.used x.free (set st.slots k (slot_at st k))) d n (λ _. back) (λ _. back)
 
   -- take's finish frees slot 0, which is in use
   orders_finish : (slot_at st 0).used ≡ true →
@@ -213,7 +213,7 @@ module _ {w : World} {a : Account} (tie : Tie w a) where
   unfolding step_by
   orders_at Idle u z = absurd (omega arith)
   orders_at Begin u z = λ ms. order_back 0
-  orders_at (Poll k) u z = orders_poll (holds (slot (Poll k)) (snapOf (Poll k))) k z
+  orders_at (Poll k) u z = orders_poll (holds (slot (Poll k)) (snap_of (Poll k))) k z
   orders_at Copy u z = λ ms. order_back 0
   orders_at Drain u z = λ ms. order_back 0
   orders_at (Keep k) u z = λ ms. order_back 0
@@ -222,7 +222,7 @@ module _ {w : World} {a : Account} (tie : Tie w a) where
   orders_at Null u z = λ ms. order_back 0
   orders_at Lock u z = λ ms. order_back 0
   orders_at (LastSnap k) u z = λ ms. order_back k
-  orders_at (LastPoll k) u z = orders_last_poll (holds (slot (LastPoll k)) (snapOf (LastPoll k))) k z
+  orders_at (LastPoll k) u z = orders_last_poll (holds (slot (LastPoll k)) (snap_of (LastPoll k))) k z
   orders_at Finish u z = λ ms. orders_finish (u refl)
   orders_at Gone u z = absurd (omega arith)
 
@@ -230,47 +230,47 @@ module _ {w : World} {a : Account} (tie : Tie w a) where
   owns : (x : Move) (ms : List Move) → OwnOf (makes x (with_plan a.trial ms a))
   owns x ms =
       let b = with_plan a.trial ms a in
-      each-move OwnOf b x (λ _ _ _. record { same = tie.own; copied = tie.own; nulled = tie.own }) (λ _. tie.own)
+      each_move OwnOf b x (λ _ _ _. record { same = tie.own; copied = tie.own; nulled = tie.own }) (λ _. tie.own)
       (λ i _. own_at tie i (reads_epoch (a.readers i)) (λ z g.
       by (λ (r : Reader). r.lives ≡ true) (a.readers i).lives (λ e. e) (λ e. subst (λ (k : ℕ). (a.readers k).lives ≡ true) (sym z) (tie.own g))))
       (λ _ g. clash refl g)
 
   -- ---- a made step
 
-  abbrev onStep : Lent Reply
-  onStep = lift (place c.phase) st (step_at c.phase c (slot c.phase) (snapOf c.phase) w.left w.right w.log)
+  abbrev on_step : Lent Reply
+  on_step = lift (place c.phase) st (step_at c.phase c (slot c.phase) (snap_of c.phase) w.left w.right w.log)
 
   abbrev c' : Control
   c' = (after c.phase).control
 
-  on_keeps : Next (solid tie) tie.inv c.phase onStep
+  on_keeps : Next (solid tie) tie.inv c.phase on_step
   unfolding step_on
   on_keeps = step_on_keeps (solid tie) tie.inv
 
   module _ (u : underway c.phase ≡ true) where
-    made_right : number (after c.phase).answer ≡ 0 → wanted a Step ≡ 0 → Right a Step onStep
+    made_right : number (after c.phase).answer ≡ 0 → wanted a Step ≡ 0 → Right a Step on_step
     made_right z want =
         let p = c.phase in
-        let q = tie.steers.left ∙ step-plan c (slot p) (snapOf p) (whole tie) w.left w.right w.log z in
+        let q = tie.steers.left ∙ step_plan c (slot p) (snap_of p) (whole tie) w.left w.right w.log z in
         let mv = moves_at p (fits (whole tie)) z in
         let od = orders_at p (λ n. (tie.reads 0).lives ∙ tie.own (sym tie.steers.stands.over ∙ n)) z in
-        let wh = whole_step c (whole tie) (slot p) (snapOf p) w.left w.right w.log in
+        let wh = whole_step c (whole tie) (slot p) (snap_of p) w.left w.right w.log in
         let v = (after p).value in
         record {
           answer = z ∙ sym want;
           value = value_done a Step v want
-              (step_value c u (slot p) (snapOf p) w.left w.right w.log
+              (step_value c u (slot p) (snap_of p) w.left w.right w.log
               ∙ ap bit (sym (ap (λ (ms : List Move). leb (length ms) 1) q ∙ last_step (plan c') ∙ ap not (plan_busy c' wh))));
-          inv = subst (λ (n : ℕ). InvOf (world_of onStep) (noted Step n v a)) (sym z)
-              (subst (λ (ms : List Move). InvOf (world_of onStep) (advanced ms a)) (sym q)
-              (subst (Inv (world_of onStep)) (sym (moved_seen (move_of p) (with_plan a.trial (plan c') a)))
-              (subst (λ (n : ℕ). Inv (world_of onStep) (elim n [ zero ↦ after_move (move_of p) (seen_of a) | suc m ↦ seen_of a ])) z on_keeps)));
+          inv = subst (λ (n : ℕ). InvOf (world_of on_step) (noted Step n v a)) (sym z)
+              (subst (λ (ms : List Move). InvOf (world_of on_step) (advanced ms a)) (sym q)
+              (subst (Inv (world_of on_step)) (sym (moved_seen (move_of p) (with_plan a.trial (plan c') a)))
+              (subst (λ (n : ℕ). Inv (world_of on_step) (elim n [ zero ↦ after_move (move_of p) (seen_of a) | suc m ↦ seen_of a ])) z on_keeps)));
           steers = subst (λ (n : ℕ). SteersOf (noted Step n v a) c') (sym z)
-              (step-steers a c tie.steers (whole tie) (early tie) (slot p) (snapOf p) w.left w.right w.log z);
-          reads = subst (λ (n : ℕ). ReadsAll (noted Step n v a) onStep.made.state) (sym z)
-              (subst (λ (ms : List Move). ReadsAll (advanced ms a) onStep.made.state) (sym q) (mv (plan c')));
-          order = subst (λ (n : ℕ). OrderOf (noted Step n v a) onStep.made.state) (sym z)
-              (subst (λ (ms : List Move). OrderOf (advanced ms a) onStep.made.state) (sym q) (od (plan c')));
+              (step_steers a c tie.steers (whole tie) (early tie) (slot p) (snap_of p) w.left w.right w.log z);
+          reads = subst (λ (n : ℕ). ReadsAll (noted Step n v a) on_step.made.state) (sym z)
+              (subst (λ (ms : List Move). ReadsAll (advanced ms a) on_step.made.state) (sym q) (mv (plan c')));
+          order = subst (λ (n : ℕ). OrderOf (noted Step n v a) on_step.made.state) (sym z)
+              (subst (λ (ms : List Move). OrderOf (advanced ms a) on_step.made.state) (sym q) (od (plan c')));
           own = subst (λ (n : ℕ). OwnOf (noted Step n v a)) (sym z) (subst (λ (ms : List Move). OwnOf (advanced ms a)) (sym q) (owns (move_of p) (plan c')));
         }
 
@@ -298,15 +298,15 @@ module _ {w : World} {a : Account} (tie : Tie w a) where
     outcome_is Finish j tr b u e f = refl
     outcome_is Gone j tr b u e f = clash u refl
 
-    abbrev metBy : List Move → Bool
-    metBy ms = elim ms [ [] ↦ false | x ∷ xs ↦ meets a x ]
+    abbrev met_by : List Move → Bool
+    met_by ms = elim ms [ [] ↦ false | x ∷ xs ↦ meets a x ]
 
-    meets_is : meets_reader a ≡ (polls c.phase && holds (slot c.phase) (snapOf c.phase))
-    meets_is = ap metBy (tie.steers.left ∙ (plan_head c (whole tie) u).1) ∙ meets_at a st tie.reads c.phase
+    meets_is : meets_reader a ≡ (polls c.phase && holds (slot c.phase) (snap_of c.phase))
+    meets_is = ap met_by (tie.steers.left ∙ (plan_head c (whole tie) u).1) ∙ meets_at a st tie.reads c.phase
 
     answer_is : smallest (step_signs 12 c) ≡ Admitted → number (after c.phase).answer ≡ wanted a Step
     answer_is v =
-        ap number (step_answer c (slot c.phase) (snapOf c.phase) w.left w.right w.log c.phase)
+        ap number (step_answer c (slot c.phase) (snap_of c.phase) w.left w.right w.log c.phase)
         ∙ outcome_is c.phase c.job a.trial _ u tie.steers.tries tie.steers.stands.last
         ∙ ap (λ (b : Bool). least (stops a c tie.steers (whole tie) b a.trial)) (sym meets_is)
         ∙ sym (wanted_step a c tie.steers (whole tie) ∙ ap (λ y. answer_no y (least (stops a c tie.steers (whole tie) (meets_reader a) a.trial))) v)
@@ -346,19 +346,19 @@ module _ {w : World} {a : Account} (tie : Tie w a) where
           own = tie.own;
         }
 
-    advanced_right : smallest (step_signs 12 c) ≡ Admitted → (m : Lent Moved) → m ≡ step_at c.phase c (slot c.phase) (snapOf c.phase) w.left w.right w.log →
-        Stepped c (slot c.phase) (snapOf c.phase) w.left w.right w.log m → Right a Step (lift (place c.phase) st m)
+    advanced_right : smallest (step_signs 12 c) ≡ Admitted → (m : Lent Moved) → m ≡ step_at c.phase c (slot c.phase) (snap_of c.phase) w.left w.right w.log →
+        Stepped c (slot c.phase) (snap_of c.phase) w.left w.right w.log m → Right a Step (lift (place c.phase) st m)
     advanced_right v m e (done q) =
         let z : number (after c.phase).answer ≡ 0 = ap (λ (x : Lent Moved). number x.made.answer) (sym e) ∙ ap number q in
         subst (λ (x : Lent Moved). Right a Step (lift (place c.phase) st x)) (sym e) (made_right z (sym (answer_is v) ∙ z))
     advanced_right v m e held =
-        refused-right tie Step refl answer.Held (omega arith) (omega arith) (sym (answer_is v) ∙ ap (λ (x : Lent Moved). number x.made.answer) (sym e)) _
+        refused_right tie Step refl answer.Held (omega arith) (omega arith) (sym (answer_is v) ∙ ap (λ (x : Lent Moved). number x.made.answer) (sym e)) _
         (move_same (place c.phase) st)
     advanced_right v m e declined =
         let z : number (after c.phase).answer ≡ 14 = ap (λ (x : Lent Moved). number x.made.answer) (sym e) in
         declined_right (sym (answer_is v) ∙ z)
-        (idle_stands c.phase c.job (holds (slot c.phase) (snapOf c.phase))
-        (ap number (sym (step_answer c (slot c.phase) (snapOf c.phase) w.left w.right w.log c.phase)) ∙ z) tie.steers.stands)
+        (idle_stands c.phase c.job (holds (slot c.phase) (snap_of c.phase))
+        (ap number (sym (step_answer c (slot c.phase) (snap_of c.phase) w.left w.right w.log c.phase)) ∙ z) tie.steers.stands)
         (place c.phase) (subst (λ (x : Lent Moved). Next (solid tie) tie.inv c.phase (lift (place c.phase) st x)) (sym e) on_keeps)
 
   pub step_right : Right a Step (reply call_on Step w)
@@ -367,6 +367,6 @@ module _ {w : World} {a : Account} (tie : Tie w a) where
       judging (Right a Step) (smallest (step_signs 12 c))
       (λ v.
       let u = step_underway c v in
-      advanced_right u v _ refl (step_stepped c (slot c.phase) (snapOf c.phase) w.left w.right w.log c.phase u))
-      (λ x v. mild-right tie Step refl x (refused_mild (step_signs 12 c) refl x v)
+      advanced_right u v _ refl (step_stepped c (slot c.phase) (snap_of c.phase) w.left w.right w.log c.phase u))
+      (λ x v. mild_right tie Step refl x (refused_mild (step_signs 12 c) refl x v)
       (wanted_step a c tie.steers (whole tie) ∙ ap (λ y. answer_no y (least (stops a c tie.steers (whole tie) (meets_reader a) a.trial))) v) st refl)

@@ -23,7 +23,7 @@ use Rattle.read.specs.Handles.{Sign, smallest, with_due}
 use Rattle.read.specs.Calls.{Lent, slot_at}
 use Rattle.read.specs.declared.Reply.{Reply}
 use Rattle.read.proofs.Verdicts.{silent, refused_mild}
-use Rattle.read.proofs.Orderly.{orderly-stored}
+use Rattle.read.proofs.Orderly.{orderly_stored}
 use Rattle.write.specs.declared.Moved.{Moved}
 use Rattle.write.specs.Call.{Append}
 use Rattle.write.specs.Begins.{batch_room, all_lawful, lawful_batch, crowds, writer_signs, operated_all, logged, logged_all, appended, append_on, append_by}
@@ -138,8 +138,8 @@ module _ (o : Op) (os : List Op) (w : World) (h : Admits (o ∷ os) w) where
 
       -- slot 0 is in use as it was
       in_order : (first : Bool) → orderly (leaves first (o ∷ []) w).state ≡ true
-      in_order true = orderly-stored st 0 _ c _ refl refl refl ∙ h.ordered
-      in_order false = orderly-stored st 0 _ _ _ refl refl refl ∙ h.ordered
+      in_order true = orderly_stored st 0 _ c _ refl refl refl ∙ h.ordered
+      in_order false = orderly_stored st 0 _ _ _ refl refl refl ∙ h.ordered
 
       signs : (first : Bool) → let x = leaves first (o ∷ []) w in smallest (signs_of os x.state.control (slot_at x.state 0)) ≡ Admitted
       signs true = behind c.length ((s.epoch + 2) % 2 ^ 64) (omega arith)

@@ -27,7 +27,7 @@ use Rattle.read.specs.declared.Verdict.TheVariants.{Admitted, Refused}
 use Rattle.read.specs.Machine.{slot_count, first_unlawful, glanced, judged, underway, place, any_open}
 use Rattle.read.specs.Handles.{smallest, handle_signs, create_signs, with_due, freed, loaded, went_on, handled, handled_by, handle_on, handle_by, create_on}
 use Rattle.read.specs.Calls.{Lent, lent, slot_at, reply_of, through_guard, through_rule}
-use Rattle.read.proofs.Orderly.{orderly-stored}
+use Rattle.read.proofs.Orderly.{orderly_stored}
 use Rattle.write.specs.declared.Moved.{Moved}
 use Rattle.write.specs.declared.Opening.{Opening}
 use Rattle.write.specs.declared.Opening.TheVariants as opening
@@ -145,7 +145,7 @@ module _ (c : Control) (s : Slot) (ss : List Slot) (e : ℕ) (es l r g : List �
         | Admitted ↦ elim (leb n (first_unlawful n g) && b) [ true ↦ Admitted | false ↦ Refused answer.Broken ]
         | Refused a ↦ Refused a
       ])
-      (sym (orderly-stored full 0 (hide s) c (0 ∷ es) refl refl refl))
+      (sym (orderly_stored full 0 (hide s) c (0 ∷ es) refl refl refl))
 
   pub shown_same : (i j : ℕ) → through_rule i j l r g full ≡ through_rule i j l r g bare
   unfolding through_rule

@@ -32,7 +32,7 @@ use Rattle.demands.specs.Follows.{steps_of, counted, Course, onward, follow, End
 use Rattle.demands.proofs.Others.{on_other, open_other}
 use Rattle.demands.proofs.Sides.{read_copy, write_copy}
 use Rattle.demands.proofs.Shown.Invariant.{Stage, early, late, ops_from, ops_of}
-use Rattle.demands.proofs.Account.Moves.{is_swap, is_finish, each-move, advanced_rest, advanced_trial, leaves_any, ran_keeps}
+use Rattle.demands.proofs.Account.Moves.{is_swap, is_finish, each_move, advanced_rest, advanced_trial, leaves_any, ran_keeps}
 use Rattle.demands.proofs.Account.Control.{StandsOf, stands_at}
 use Rattle.demands.proofs.Account.Rows.{is_busy, idle_step, declined_tries, writes_idle, busy_is}
 use Rattle.demands.proofs.Account.Calls.{Tie, whole}
@@ -162,7 +162,7 @@ module _ (o : Opening) (ops : List Op) where
       go (x ∷ xs) h =
           let rest : is_swap x ≡ false → is_finish x ≡ false → Keeps o ops (with_plan a.trial xs a) =
           λ p q. record { begins = h.begins; tries = h.tries; published = λ n. h.published (λ i. p i || n i); finishes = λ t. shorter x xs a.gone q (h.finishes t) } in
-          each-move (Keeps o ops) (with_plan a.trial xs a) x (λ p _ q. record { same = rest p q; copied = rest p q; nulled = rest p q })
+          each_move (Keeps o ops) (with_plan a.trial xs a) x (λ p _ q. record { same = rest p q; copied = rest p q; nulled = rest p q })
           (λ e. record { begins = h.begins; tries = h.tries; published = λ _. h.begins; finishes = λ t. shorter x xs a.gone (ap is_finish e) (h.finishes t) })
           (λ i e. rest (ap is_swap e) (ap is_finish e))
           (λ e. record { begins = h.begins; tries = h.tries; published = λ n. h.published (λ i. is_swap (e i) || n i); finishes = λ _. or-true (ends_finish xs) })
@@ -251,29 +251,29 @@ module _ (o : Opening) (t : Store) where
   abbrev ops : List Op
   ops = t.accepted
 
-  abbrev whole-plan : List Move
-  whole-plan = plan_of o t
+  abbrev whole_plan : List Move
+  whole_plan = plan_of o t
 
   -- made steps, the beginning among them, and those that are left
   record Count (made : ℕ) (ms : List Move) : Type 0 where
     some : 1 ≤ made
-    within : made ≤ suc (length whole-plan)
-    rest : ms ≡ drop (made - 1) whole-plan
+    within : made ≤ suc (length whole_plan)
+    rest : ms ≡ drop (made - 1) whole_plan
 
   data Along (x : Course) : Type 0 where
     onway : Tie x.now.world x.now.account → x.declined ≡ false → Count x.count x.now.account.plan → Keeps o ops x.now.account → Along x
     ended : x.declined ≡ true → busy x.now.account ≡ false → is_try o ≡ true → Along x
 
-  left_length : {made : ℕ} {ms : List Move} → Count made ms → length ms ≡ length whole-plan - (made - 1)
-  left_length {made} c = ap length c.rest ∙ length-drop (made - 1) whole-plan
+  left_length : {made : ℕ} {ms : List Move} → Count made ms → length ms ≡ length whole_plan - (made - 1)
+  left_length {made} c = ap length c.rest ∙ length-drop (made - 1) whole_plan
 
   more : (made k : ℕ) (ms ns : List Move) → Count made ms → k ≤ length ms → ns ≡ drop k ms → Count (made + k) ns
   more made k ms ns c e d =
       record {
         some = omega (arith, c.some);
         within = omega (arith, c.some, c.within, left_length c);
-        rest = d ∙ ap (drop k) c.rest ∙ drop-drop k (made - 1) whole-plan
-            ∙ ap (λ (i : ℕ). drop i whole-plan) (let q : made - 1 + k ≡ made + k - 1 = omega (arith, c.some) in q);
+        rest = d ∙ ap (drop k) c.rest ∙ drop-drop k (made - 1) whole_plan
+            ∙ ap (λ (i : ℕ). drop i whole_plan) (let q : made - 1 + k ≡ made + k - 1 = omega (arith, c.some) in q);
       }
 
   onward_along : (k : Call) (x : Course) → busy x.now.account ≡ true → Along x → Along (onward call_rule k x)
@@ -295,7 +295,7 @@ module _ (o : Opening) (t : Store) where
   follow_along (k ∷ ks) x h =
       by Along (busy x.now.account) (λ u. follow_along ks (onward call_rule k x) (onward_along k x u h)) (λ u. h)
 
-  along_ends : (is_try o ≡ true → is_take o ≡ false) → suc (length whole-plan) ≡ steps_of o t → (x : Course) → Along x → EndsAt o t x
+  along_ends : (is_try o ≡ true → is_take o ≡ false) → suc (length whole_plan) ≡ steps_of o t → (x : Course) → Along x → EndsAt o t x
   along_ends f n x (onway h d e s) =
       let ms = x.now.account.plan in
       record {

@@ -26,7 +26,7 @@ use Rattle.write.specs.World.{Machine, reply, answer_of, value_of}
 use Rattle.demands.specs.Account.{delays, Reader, Store, Account, Move, begin, poll, copy, apply, swap, snap, null, lock, finish, up_from, provided, publishing, publish_plan, first_inside, plan_of, unswapped, with_at, inside, with_plan, turned, closes, missed, spoke, advanced, ran, noted}
 use Rattle.demands.specs.Table.{meets_reader}
 use Rattle.demands.specs.Demands.{Told, fresh_told, tell, telling, told}
-use Rattle.demands.proofs.Account.Moves.{meets, is_swap, is_snap, each-move, leaves_any, ran_keeps}
+use Rattle.demands.proofs.Account.Moves.{meets, is_swap, is_snap, each_move, leaves_any, ran_keeps}
 
 -- ---- plans
 
@@ -133,7 +133,7 @@ step_kept a h = go a.plan h.unsnapped
         let u : Bool = unswapped a.store in
         let rest : is_swap x ≡ false → is_snap x ≡ false → KeptBy u a.readers a.store.in_log xs =
         λ p q. kept_plan h xs (λ n. sym (λ i. elim (p i) [ true ↦ true | false ↦ elim (q i) [ true ↦ false | false ↦ swaps_first true xs ] ]) ∙ e n) in
-        each-move Kept (with_plan a.trial xs a) x
+        each_move Kept (with_plan a.trial xs a) x
         (λ p q _. record { same = rest p q; copied = rest p q; nulled = rest p q })
         (λ _.
         let z = eqb-suc-zero a.store.swaps in

@@ -21,7 +21,7 @@ use Rattle.write.specs.Call.{On, Open, Step}
 use Rattle.write.specs.Begins.{writer_signs, column_of}
 use Rattle.write.specs.Runs.{snap_at}
 use Rattle.write.specs.World.{World}
-use Rattle.write.proofs.Verdicts.{open-idle}
+use Rattle.write.proofs.Verdicts.{open_idle}
 use Rattle.demands.specs.Account.{delays, Reader, Account, Move, poll, each, inside}
 use Rattle.demands.specs.Table.{least, busy, meets_reader, wanted}
 use Rattle.demands.specs.Follows.{Named}
@@ -45,7 +45,7 @@ module _ {w : World} {a : Account} (h : Tie w a) where
   begins_idle o z =
       let s = slot_at w.state 0 in
       let signs = writer_signs (column_of o) false false c s in
-      open-idle o c s
+      open_idle o c s
       (admitted_zero (smallest signs) signs refl 0 refl
       (sym (wanted_open a c h.steers (whole h) s (snap_at w.state 0) (h.reads 0) o) ∙ z))
 

@@ -24,7 +24,7 @@ use Rattle.write.proofs.RunLaws.{run_steps as run_counts}
 use Rattle.write.proofs.Verdicts.{step_underway}
 use Rattle.write.proofs.Cases.{going_on}
 use Rattle.write.proofs.Control.{Whole}
-use Rattle.write.proofs.Left.{step-lowers, left_idle, left_underway}
+use Rattle.write.proofs.Left.{step_lowers, left_idle, left_underway}
 use Rattle.write.proofs.NeverBroken.{sound_step}
 use Rattle.demands.specs.Demands.{after_steps}
 use Rattle.demands.proofs.Phases.{phase_of}
@@ -48,12 +48,12 @@ abbrev pub RunIsSteps : Machine → World → Type 0
 RunIsSteps m w = let r = reply m Run w in Steps m w (value_of r) (answer_of r) (next m Run w)
 
 -- step and run are refused alike, where no call is under way
-refused-alike :
+refused_alike :
     (w : World) (v : Verdict) → smallest (step_signs 12 w.state.control) ≡ v → underway (phase_of w) ≡ false →
     (reply call_on Run w ≡ reply call_on Step w) × (value_of (reply call_on Run w) ≡ 0) × (answer_of (reply call_on Run w) ≢ 0)
 unfolding call_on entry
-refused-alike w Admitted e u = clash (step_underway w.state.control e) u
-refused-alike w (Refused a) e u =
+refused_alike w Admitted e u = clash (step_underway w.state.control e) u
+refused_alike w (Refused a) e u =
     let x = refused_mild (step_signs 12 w.state.control) refl a e in
     rw (e, going) (refl, refl, λ z. omega arith)
 
@@ -80,10 +80,10 @@ module _ (m : Machine) (Good : World → Type 0) (whole : (w : World) → Good w
         made zero b = z
         made (suc j) b = h.made j (omega arith)
 
-    steps-are :
+    steps_are :
         (k n : ℕ) (w : World) → Good w → left w.state.control ≡ k → Are n w (steps k n w.state w.left w.right w.log)
     unfolding steps on_step step_on
-    steps-are zero n w h e =
+    steps_are zero n w h e =
         record {
           v = 0;
           sum = omega arith;
@@ -91,17 +91,17 @@ module _ (m : Machine) (Good : World → Type 0) (whole : (w : World) → Good w
           ended = λ z. (refl, left_idle w.state.control (whole w h) e);
           stopped = λ z. absurd (z refl);
         }
-    steps-are (suc k) n w h e =
+    steps_are (suc k) n w h e =
         let c = w.state.control in
         let i = place c.phase in
         let q : reply m Step w ≡ on_step w = same w h Step ∙ step_on_lem w (left_underway c e) in
         let rest = steps k (n + 1) (on_step w).made.state (on_step w).left (on_step w).right (on_step w).log in
         going_on (Are n w) (steps k (n + 1)) n (on_step w)
         (λ z.
-        let f = step-lowers c (slot_at w.state i) (snap_at w.state i) (whole w h) w.left w.right w.log z in
+        let f = step_lowers c (slot_at w.state i) (snap_at w.state i) (whole w h) w.left w.right w.log z in
         are_on n w rest (ap answer_of q ∙ z)
         (subst (λ (y : World). Are (n + 1) y rest) (ap world_of (sym q))
-        (steps-are k (n + 1) (world_of (on_step w)) (keeps w h) (omega arith))))
+        (steps_are k (n + 1) (world_of (on_step w)) (keeps w h) (omega arith))))
         (λ a z.
         record {
           v = 0;
@@ -130,9 +130,9 @@ module _ (m : Machine) (Good : World → Type 0) (whole : (w : World) → Good w
         split (underway (phase_of w))
         (λ u.
         subst (λ (o : Lent Reply). Steps m w (value_of o) (answer_of o) (world_of o)) (sym (same w h Run ∙ run_on_lem w u ∙ run_counts w.state w.left w.right w.log (whole w h)))
-        (are_steps w _ u (steps-are (left w.state.control) 0 w h refl)))
+        (are_steps w _ u (steps_are (left w.state.control) 0 w h refl)))
         (λ u.
-        let x = refused-alike w _ refl u in
+        let x = refused_alike w _ refl u in
         let e = same w h Run in
         subst (λ (n : ℕ). Steps m w n (answer_of (reply m Run w)) (next m Run w)) (sym (ap value_of e ∙ x.1))
         (record {

@@ -13,7 +13,7 @@ use Rattle.read.specs.Machine.{slot_count, behind, free_below, walk, orderly}
 use Rattle.read.specs.Calls.{slot_at}
 use Rattle.read.proofs.FreeOrder.{at, Turn, turn, ends, unique, walk_on}
 use Rattle.demands.specs.Demand1.{Comes, NoneTwice, Ordered}
-use Rattle.demands.proofs.Refusal.Untaken.{unless, count, Among, among-all, among-many}
+use Rattle.demands.proofs.Refusal.Untaken.{unless, count, Among, among_all, among_many}
 
 free_count : (n : ℕ) (ss : List Slot) → free_below n ss ≡ count n (λ i. (at ss i).used)
 unfolding free_below
@@ -76,14 +76,14 @@ module _ (st : State) where
 
   -- ---- a list that comes is walked
 
-  comes-walk :
+  comes_walk :
       (k : ℕ) (is : List ℕ) → Comes st k is → ((i : ℕ) → Memᴰ i is → i < slot_count) →
       ((i : ℕ) → Memᴰ i is → (slot_at st i).used ≡ false) → walk (length is) ss k ≡ true
-  comes-walk k [] e s v = no_turn ss k e
-  comes-walk k (i ∷ is) (e, c) s v =
+  comes_walk k [] e s v = no_turn ss k e
+  comes_walk k (i ∷ is) (e, c) s v =
       ap (walk (suc (length is)) ss) e
       ∙ walk_on (length is) ss i (s i (Memᴰ.head refl)) (v i (Memᴰ.head refl))
-      ∙ comes-walk (next i) is c (λ j m. s j (Memᴰ.tail m)) (λ j m. v j (Memᴰ.tail m))
+      ∙ comes_walk (next i) is c (λ j m. s j (Memᴰ.tail m)) (λ j m. v j (Memᴰ.tail m))
 
   -- ---- the two
 
@@ -99,12 +99,12 @@ module _ (st : State) where
         slots = a.slots;
         vacant = a.vacant;
         once = a.once;
-        all = among-all (trail n k) a (sym (free_count slot_count ss) ∙ sym (trail_length n k));
+        all = among_all (trail n k) a (sym (free_count slot_count ss) ∙ sym (trail_length n k));
       }
 
   pub orderly_is : Ordered st → orderly st ≡ true
   unfolding orderly
   orderly_is o =
       let a : Among slot_count taken o.order = record { slots = o.slots; vacant = o.vacant; once = o.once } in
-      let n = free_count slot_count ss ∙ among-many o.order a o.all in
-      ap (λ (x : ℕ). walk x ss st.control.free) n ∙ comes-walk _ o.order o.comes o.slots o.vacant
+      let n = free_count slot_count ss ∙ among_many o.order a o.all in
+      ap (λ (x : ℕ). walk x ss st.control.free) n ∙ comes_walk _ o.order o.comes o.slots o.vacant

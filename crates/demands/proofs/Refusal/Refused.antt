@@ -13,7 +13,7 @@ use Rattle.write.specs.Call.{Call, Create, On, Append, Open, Step, Run}
 use Rattle.write.specs.Numbers.{is_step}
 use Rattle.write.specs.Machine.{call_rule}
 use Rattle.write.specs.World.{World, world_of, reply, answer_of, value_of}
-use Rattle.write.proofs.Refusals.{still_up_to, still_large, refusal-same}
+use Rattle.write.proofs.Refusals.{still_up_to, still_large, refusal_same}
 use Rattle.demands.specs.Demand1.{refuses, Demand1}
 use Rattle.demands.proofs.Refusal.Judged.{unsized_1, broken_2, otherwise_none}
 
@@ -40,7 +40,7 @@ refused_still k a q =
 refused : (k : Call) (w : World) → refuses k (answer_of (reply call_rule k w)) ≡ true →
     (let o = reply call_rule k w in o ≡ lent (refusal o.made.answer w.state) w.left w.right w.log)
 refused k w q =
-    let (x, y) = refused_still k (answer_of (reply call_rule k w)) q in refusal-same w.state w.left w.right w.log k x y
+    let (x, y) = refused_still k (answer_of (reply call_rule k w)) q in refusal_same w.state w.left w.right w.log k x y
 
 pub demand1 : Demand1 call_rule
 demand1 =

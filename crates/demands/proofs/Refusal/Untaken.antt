@@ -84,19 +84,19 @@ module _ {n i : ℕ} {taken : ℕ → Bool} {is : List ℕ} where
   among_count : Among n taken (i ∷ is) → count n taken ≡ suc (count n (and i taken))
   among_count a = count_and n i taken (a.slots i (Memᴰ.head refl)) (a.vacant i (Memᴰ.head refl))
 
-pub among-all :
+pub among_all :
     {n : ℕ} {taken : ℕ → Bool} (is : List ℕ) → Among n taken is → count n taken ≡ length is → (j : ℕ) → j < n → taken j ≡ false → Memᴰ j is
-among-all {n} {taken} [] a e j l v = absurd (omega (arith, count_and n j taken l v))
-among-all {n} {taken} (i ∷ is) a e j l v =
+among_all {n} {taken} [] a e j l v = absurd (omega (arith, count_and n j taken l v))
+among_all {n} {taken} (i ∷ is) a e j l v =
     split (eqb j i) (λ q. Memᴰ.head (eqb-true j i q))
     (λ q.
-    Memᴰ.tail (among-all is (among_rest a) (omega (arith, among_count a)) j l (and_other i taken j (eqb-false j i q) ∙ v)))
+    Memᴰ.tail (among_all {taken = and i taken} is (among_rest a) (omega (arith, among_count a)) j l (and_other i taken j (eqb-false j i q) ∙ v)))
 
-pub among-many :
+pub among_many :
     {n : ℕ} {taken : ℕ → Bool} (is : List ℕ) → Among n taken is → ((j : ℕ) → j < n → taken j ≡ false → Memᴰ j is) → count n taken ≡ length is
-among-many {n} {taken} [] a f =
+among_many {n} {taken} [] a f =
     count_none n taken (λ j l. split (taken j) (λ e. e) (λ e. absurd (Memᴰ.not-nil (f j l e))))
-among-many {n} {taken} (i ∷ is) a f = among_count a ∙ ap suc (among-many is (among_rest a) rest)
+among_many {n} {taken} (i ∷ is) a f = among_count a ∙ ap suc (among_many {taken = and i taken} is (among_rest a) rest)
   where
     rest : (j : ℕ) → j < n → and i taken j ≡ false → Memᴰ j is
     rest j l v =

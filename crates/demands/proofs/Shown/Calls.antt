@@ -31,11 +31,11 @@ use Rattle.write.proofs.Cases.{with_job}
 use Rattle.demands.proofs.Passed.{OnPassed}
 use Rattle.demands.proofs.Sides.{read_copy, write_copy}
 use Rattle.demands.proofs.Shown.Invariant.{Seen, sight, Quiet, Stage, Inv, ops_of, reach_at, firstly, or_all}
-use Rattle.demands.proofs.Shown.Slot.{within_same, twice-view, weaken}
+use Rattle.demands.proofs.Shown.Slot.{within_same, twice_view, weaken}
 use Rattle.demands.proofs.Shown.Unused.{clear_logged_all}
-use Rattle.demands.proofs.Shown.Log.{length_ops, ops-loggedAll, all_made}
-use Rattle.demands.proofs.Shown.Stages.{Begins, begins_polling, begins_beginning, begins_taking, stage-polling, stage-beginning, begin_stage, take-stage, log-stage, apply_stage}
-use Rattle.demands.proofs.Shown.Lifts.{ctl, world, with_control, slot_back, snap_back, StageIn, snap_back_lem, both_back, slot-keeps, control-keeps, write_keeps}
+use Rattle.demands.proofs.Shown.Log.{length_ops, ops_logged_all, all_made}
+use Rattle.demands.proofs.Shown.Stages.{Begins, begins_polling, begins_beginning, begins_taking, stage_polling, stage_beginning, begin_stage, take_stage, log_stage, apply_stage}
+use Rattle.demands.proofs.Shown.Lifts.{ctl, world, with_control, slot_back, snap_back, StageIn, snap_back_lem, both_back, slot_keeps, control_keeps, write_keeps}
 use Rattle.demands.proofs.Sound.{Firm, firm_slot}
 use Rattle.demands.proofs.Shown.Steps.{fit_write}
 
@@ -84,13 +84,13 @@ module _ {w : World} {t : Seen} (sound : Firm w) (inv : Inv w t) where
       abbrev grown : Seen
       grown = sight (t.accepted ++ os) t.at_begin t.published t.loaded
 
-      pub first-keeps :
+      pub first_keeps :
           (ctl w).first ≡ true → all_lawful os ≡ true →
           Inv (world_of (lift 0 w.state (append_first Walk os (ctl w) (slot_at w.state 0) (snap_at w.state 0) w.left w.right w.log))) grown
-      first-keeps q law =
+      first_keeps q law =
           let s = slot_at w.state 0 in
-          let h = slot-keeps sound inv 0 some_slot (with_due ((s.epoch + 2) % 2 ^ 64) s.due s) t.loaded (λ k ne. refl) (λ _ u. not_underway u)
-          (twice-view (inv.each 0) rest.quiet) in
+          let h = slot_keeps sound inv 0 some_slot (with_due ((s.epoch + 2) % 2 ^ 64) s.due s) t.loaded (λ k ne. refl) (λ _ u. not_underway u)
+          (twice_view (inv.each 0) rest.quiet) in
           snap_back_lem 0 _
           (write_keeps (firm_slot 0 _ sound) h (operated_all os) (after os (write_copy w)) (all_made os (write_copy w) law (fit_write sound inv))
           inv.unused (ap (λ (f : Bool). or_all f (reach_at (ctl w).phase).cleared) q) (within_same refl)
@@ -100,10 +100,10 @@ module _ {w : World} {t : Seen} (sound : Firm w) (inv : Inv w t) where
           (sym rest.idle) (apply_stage os q (stage_idle rest.idle)))
           inv.spent)
 
-      pub later-keeps :
+      pub later_keeps :
           (ctl w).first ≡ false → (ctl w).length + length os ≤ log_room →
           Inv (world_of (lift 0 w.state (append_later os (ctl w) (slot_at w.state 0) (snap_at w.state 0) w.left w.right w.log))) grown
-      later-keeps q lt =
+      later_keeps q lt =
           let n = (ctl w).length in
           let g = logged_all n os w.log in
           both_back 0
@@ -115,8 +115,8 @@ module _ {w : World} {t : Seen} (sound : Firm w) (inv : Inv w t) where
             at_begin = λ u. not_underway u;
             stage = subst₂
                 (λ (p : Phase) (ls : List Op). Stage p (ctl w).job (ctl w).second (ctl w).swapped ls (read_copy w) (write_copy w) (t.accepted ++ os) t.published (ctl w).first)
-                (sym rest.idle) (sym (ops-loggedAll os n w.log lt sound.good.words.log))
-                (log-stage os q (omega (arith, sound.good.whole.within, length_ops n 0 w.log)) (stage_idle rest.idle));
+                (sym rest.idle) (sym (ops_logged_all os n w.log lt sound.good.words.log))
+                (log_stage os q (omega (arith, sound.good.whole.within, length_ops n 0 w.log)) (stage_idle rest.idle));
             unused = clear_logged_all os n w.log inv.unused;
             spent = λ z. clash z (ap is_gone rest.idle);
           })
@@ -129,7 +129,7 @@ module _ {w : World} {t : Seen} (sound : Firm w) (inv : Inv w t) where
         {j : Job} {q : Phase} → Begins (ctl w) q → StageIn w t q j →
         Inv (snap_back 0 (slot_back 0 (with_control (at q (with_job j (ctl w))) w))) begins
     open_step b stg =
-        both_back 0 _ (control-keeps sound inv
+        both_back 0 _ (control_keeps sound inv
         (λ i. weaken (inv.each i) (within_same (b.at ∙ ap (λ (p : Phase). firstly (ctl w).first (reach_at p)) (sym rest.idle)) i))
         (λ _. rest.quiet) (λ _. refl) b.stays stg)
 
@@ -138,11 +138,11 @@ module _ {w : World} {t : Seen} (sound : Firm w) (inv : Inv w t) where
 
     pub publish_keeps : Inv (snap_back 0 (slot_back 0 (with_control (begun (ctl w)) w))) begins
     publish_keeps =
-        open_step (begins_beginning (ctl w)) (stage-beginning (with_job job.Publish (ctl w)) ln (begin_stage refl (stage_idle rest.idle)))
+        open_step (begins_beginning (ctl w)) (stage_beginning (with_job job.Publish (ctl w)) ln (begin_stage refl (stage_idle rest.idle)))
 
     pub try_keeps : Inv (snap_back 0 (slot_back 0 (with_control (at (polling (ctl w) 0) (with_job job.Try (ctl w))) w))) begins
     try_keeps =
-        open_step (begins_polling (ctl w)) (stage-polling (with_job job.Try (ctl w)) 0 ln (begin_stage refl (stage_idle rest.idle)))
+        open_step (begins_polling (ctl w)) (stage_polling (with_job job.Try (ctl w)) 0 ln (begin_stage refl (stage_idle rest.idle)))
 
     pub take_keeps : Inv (snap_back 0 (slot_back 0 (with_control (at (taking (ctl w)) (with_job job.TakeFirst (ctl w))) w))) begins
-    take_keeps = open_step (begins_taking (ctl w)) (take-stage (ctl w) ln (stage_idle rest.idle))
+    take_keeps = open_step (begins_taking (ctl w)) (take_stage (ctl w) ln (stage_idle rest.idle))

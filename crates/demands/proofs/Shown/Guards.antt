@@ -58,10 +58,10 @@ module _ (gs : List Guard) (four : length gs ≡ guard_count) (k : ℕ) (x : Gua
   put_four = rw put_set (length-set gs k x ∙ four)
 
   -- what holds of the guard that is put there, and of each other as it was, holds of each
-  pub at-put :
+  pub at_put :
       (P : ℕ → Bool → Bool → Type 0) → P k x.opened x.right →
       ((j : ℕ) → j ≢ k → P j (is_open gs j) (stands_right gs j)) →
       (j : ℕ) → P j (is_open (put_guard k x gs) j) (stands_right (put_guard k x gs) j)
-  at-put P p q = rw put_set
+  at_put P p q = rw put_set
       (at_set (λ j y. P j (ltb j guard_count && y.opened) (ltb j guard_count && y.right)) gs k x shut (rw four h)
       (rw (lt-ltb k guard_count h) p) q)

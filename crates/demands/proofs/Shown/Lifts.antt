@@ -119,10 +119,10 @@ module _ {w : World} {t : Seen} (sound : Firm w) (inv : Inv w t) where
       no_guard i j o (omega (arith, ((inv.each i).waited j o).0))
 
   -- a call that changes slot i alone
-  pub slot-keeps :
+  pub slot_keeps :
       (i : ℕ) → i < slot_count → (s : Slot) (ld : ℕ → ℕ → List Op) → ((k : ℕ) → k ≢ i → ld k ≡ t.loaded k) →
       (i ≡ 0 → underway (ctl w).phase ≡ true → Quiet s) → ViewOf w i (ld i) s → Inv (at_slot i s w) (sight t.accepted t.at_begin t.published ld)
-  slot-keeps i lt s ld same quiet v =
+  slot_keeps i lt s ld same quiet v =
       let lt' : i < length w.state.slots = omega (arith, sound.slots) in
       record {
         each = at_set (λ k x. ViewOf w k (ld k) x) w.state.slots i s no_slot lt' v
@@ -137,11 +137,11 @@ module _ {w : World} {t : Seen} (sound : Firm w) (inv : Inv w t) where
       }
 
   -- a change of phase and job
-  pub control-keeps :
+  pub control_keeps :
       {null lock : Bool} {p : Phase} {j : Job} {bg : List Op} → ((i : ℕ) → ViewAs w t (reach_at p) i) →
       (underway p ≡ true → Quiet (slot_at w.state 0)) → (underway p ≡ true → bg ≡ t.accepted) → is_gone p ≡ false →
       StageIn w t p j → Inv (with_control (onward null lock p j (ctl w)) w) (sight t.accepted bg t.published t.loaded)
-  control-keeps v quiet bg stays stg = record {
+  control_keeps v quiet bg stays stg = record {
     each = v;
     own = quiet;
     read = inv.read;
@@ -174,12 +174,12 @@ module _ {w : World} {t : Seen} (sound : Firm w) (inv : Inv w t) where
       }
 
   -- the snapshot of slot k
-  pub snap-keeps :
+  pub snap_keeps :
       {null lock : Bool} {p : Phase} {j : Job} {h : Reach} (k : ℕ) → k < slot_count → Stands h p → h.cleared ≡ 0 → h.emptied ≡ 0 →
       ((i : ℕ) → i ≢ k → Within i h (reach_at (ctl w).phase)) →
       (underway p ≡ true → Quiet (slot_at w.state 0)) → (underway p ≡ true → t.at_begin ≡ t.accepted) → StageIn w t p j →
       Inv (snap_to k (seen (slot_at w.state k) (snap_at w.state k)) (with_control (onward null lock p j (ctl w)) w)) t
-  snap-keeps {p = p} {h = h} k lt b c e in_reach quiet bg stg = record {
+  snap_keeps {p = p} {h = h} k lt b c e in_reach quiet bg stg = record {
     each = subst
         (λ (a : Reach). (i : ℕ) → View (ctl w).right (firstly (ctl w).first a) i (get_or (set w.state.snapshots k new) i 0) w.left w.right (t.loaded i) (slot_at w.state i))
         (sym b.at)

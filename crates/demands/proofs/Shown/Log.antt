@@ -11,7 +11,7 @@ use borrow.Author.Tests.{lt-ltb}
 use Rattle.table.specs.Copy.{lawful, Fit}
 use Rattle.table.specs.declared.Search.TheVariants.{Walk}
 use Rattle.table.specs.Order.{Op, after}
-use Rattle.table.proofs.Cases.{apply-made}
+use Rattle.table.proofs.Cases.{apply_made}
 use Rattle.table.proofs.CopyFit.{fit_applied, fit_fits}
 use Rattle.table.proofs.Booleans.{both}
 use Rattle.read.specs.Machine.{log_room, log_words, lawful_at}
@@ -83,24 +83,24 @@ module _ (n kind key amount : ℕ) (g : List ℕ) (room : n < log_room) (sized :
       ops_same n 0 0 g' g (λ x lt. other_word n kind key amount g room sized (3 * 0 + x) (omega arith)) in
       ops_snoc n 0 g' ∙ (λ t. b t ++ (a t ∷ []))
 
-pub ops-loggedAll :
+pub ops_logged_all :
     (os : List Op) (n : ℕ) (g : List ℕ) → n + length os ≤ log_room → length g ≡ log_words →
     ops_from (n + length os) 0 (logged_all n os g) ≡ ops_from n 0 g ++ os
-ops-loggedAll [] n g room sized =
+ops_logged_all [] n g room sized =
     let e : n + 0 ≡ n = omega arith in
     ap (λ (x : ℕ). ops_from x 0 g) e ∙ sym (append-nil (ops_from n 0 g))
-ops-loggedAll (o ∷ os) n g room sized =
+ops_logged_all (o ∷ os) n g room sized =
     let g' = logged n o.kind o.key o.amount g in
     let e : n + suc (length os) ≡ suc n + length os = omega arith in
-    ap (λ (x : ℕ). ops_from x 0 (logged_all (suc n) os g')) e ∙ ops-loggedAll os (suc n) g' (omega arith) (simp length-set sized)
+    ap (λ (x : ℕ). ops_from x 0 (logged_all (suc n) os g')) e ∙ ops_logged_all os (suc n) g' (omega arith) (simp length-set sized)
     ∙ ap (λ (x : List Op). x ++ os) (ops_logged n o.kind o.key o.amount g (omega arith) sized)
     ∙ append_assoc (ops_from n 0 g) (o ∷ []) os
 
 -- ---- the first of n taken off
 
-pub ops-unlogged :
+pub ops_unlogged :
     (n : ℕ) (g : List ℕ) → 0 < n → n ≤ log_room → length g ≡ log_words → ops_from (n - 1) 0 (unlogged n g) ≡ drop 1 (ops_from n 0 g)
-ops-unlogged n g some room sized =
+ops_unlogged n g some room sized =
     ops_same (n - 1) 0 1 (unlogged n g) g
     (λ x lt. moved_word n g some room sized (3 * 0 + x) (3 * 1 + x) (omega arith) (omega arith))
     ∙ sym (ops_rest n g some)
@@ -108,12 +108,12 @@ ops-unlogged n g some room sized =
 -- ---- operations applied, and the copying
 
 op_made : (o : Op) (w : List ℕ) → lawful o.kind o.key o.amount ≡ true → Fit w → operated o.kind o.key o.amount w ≡ after (o ∷ []) w
-op_made o w law fit = ap (λ x. x.copy) (apply-made Walk o.kind o.key o.amount w (fit_fits w fit) law)
+op_made o w law fit = ap (λ x. x.copy) (apply_made Walk o.kind o.key o.amount w (fit_fits w fit) law)
 
 -- an operation of the log of a sound machine
-pub op-applied :
+pub op_applied :
     (g : List ℕ) (i : ℕ) (w : List ℕ) → i < log_room → lawful_at g i ≡ true → Fit w → log_applied g i w ≡ after (op_at g i ∷ []) w
-op-applied g i w h law fit = rw (lt-ltb i log_room h, log_applied_by) (op_made (op_at g i) w law fit)
+op_applied g i w h law fit = rw (lt-ltb i log_room h, log_applied_by) (op_made (op_at g i) w law fit)
 
 -- lawful operations, one after the other
 pub all_made : (os : List Op) (w : List ℕ) → all_lawful os ≡ true → Fit w → operated_all os w ≡ after os w

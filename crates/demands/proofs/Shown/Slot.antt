@@ -29,7 +29,7 @@ use Rattle.write.specs.Steps.{holds, seen, vacated}
 use Rattle.demands.specs.Account.{with_at}
 use Rattle.demands.proofs.Passed.{OnPassed}
 use Rattle.demands.proofs.Shown.Invariant.{Shape, outside, announced, inside, Quiet, Reach, reach, before, firstly, Held, View}
-use Rattle.demands.proofs.Shown.Guards.{same_at, other_at, all_shut, open_below, some_open, none_open, has_room, put_four, at-put}
+use Rattle.demands.proofs.Shown.Guards.{same_at, other_at, all_shut, open_below, some_open, none_open, has_room, put_four, at_put}
 
 -- ---- the shape
 
@@ -89,33 +89,33 @@ pub reload :
 reload v e = record { four = v.four; shape = v.shape; shows = λ j o. v.shows j o ∙ ap (λ (os : List Op). after os empty) (e j o); stale = v.stale; waited = v.waited }
 
 -- the writer's own slot after an append before the first swap
-pub twice-view :
+pub twice_view :
     {right : Bool} {h : Reach} {i snap : ℕ} {l r : List ℕ} {f : ℕ → List Op} {s : Slot} → View right h i snap l r f s → Quiet s →
     View right h i snap l r f (with_due ((s.epoch + 2) % 2 ^ 64) s.due s)
-twice-view {s} v q =
+twice_view {s} v q =
     no_guards v.four (outside (odd_twice s.epoch ∙ at_rest v.shape q.idle q.alone) q.idle q.alone) q.alone
 
 -- a handle that is given back at rest
-pub freed-view :
+pub freed_view :
     {right : Bool} {h : Reach} {i snap : ℕ} {l r : List ℕ} {f : ℕ → List Op} {s : Slot} (k : ℕ) → View right h i snap l r f s → Quiet s →
     View right h i snap l r f (freed k s)
-freed-view k v q = no_guards v.four (outside (at_rest v.shape q.idle q.alone) q.idle q.alone) q.alone
+freed_view k v q = no_guards v.four (outside (at_rest v.shape q.idle q.alone) q.idle q.alone) q.alone
 
 -- the writer's own, at take's finish
-pub vacated-view :
+pub vacated_view :
     {right : Bool} {h : Reach} {i snap : ℕ} {l r : List ℕ} {f : ℕ → List Op} {s : Slot} (k : ℕ) → View right h i snap l r f s → Quiet s →
     View right h i snap l r f (vacated k s)
-vacated-view {right} {h} {i} {snap} {l} {r} {f} {s} k v q = by (View right h i snap l r f) s.used (λ _. freed-view k v q) (λ _. v)
+vacated_view {right} {h} {i} {snap} {l} {r} {f} {s} k v q = by (View right h i snap l r f) s.used (λ _. freed_view k v q) (λ _. v)
 
 pub new_view : {right : Bool} {h : Reach} {i snap : ℕ} {l r : List ℕ} {f : ℕ → List Op} → View right h i snap l r f new_slot
 new_view = no_guards refl (outside odd_zero refl none_open) none_open
 
 -- a load that finds a copy opens a guard on it, which shows what is published
-pub guarded-view :
+pub guarded_view :
     {right : Bool} {h : Reach} {i snap : ℕ} {l r : List ℕ} {f : ℕ → List Op} {s : Slot} → View right h i snap l r f s → s.used ≡ true →
     odd s.epoch ≡ true → all_open s.guards ≡ false → (pb : List Op) → copy_of right l r ≡ after pb empty → Held h.emptied h.resnapped i snap s.epoch →
     View right h i snap l r (with_at (first_guard false s.guards) pb f) (guarded right s)
-guarded-view {right} {h} {i} {snap} {l} {r} {f} {s} v u od room pb read new-held =
+guarded_view {right} {h} {i} {snap} {l} {r} {f} {s} v u od room pb read new-held =
     let k : ℕ = first_guard false s.guards in
     let new : Guard = open_on right in
     let lt : k < guard_count = has_room s.guards room in
@@ -123,20 +123,20 @@ guarded-view {right} {h} {i} {snap} {l} {r} {f} {s} v u od room pb read new-held
       four = put_four s.guards v.four k new lt;
       shape = inside u od refl
           (some_open (put_guard k new s.guards) k
-          (at-put s.guards v.four k new lt (λ j a b. j ≡ k → a ≡ true) (λ _. refl) (λ j ne e. absurd (ne e)) k refl));
-      shows = at-put s.guards v.four k new lt (λ j a b. a ≡ true → copy_of b l r ≡ after (with_at k pb f j) empty)
+          (at_put s.guards v.four k new lt (λ j a b. j ≡ k → a ≡ true) (λ _. refl) (λ j ne e. absurd (ne e)) k refl));
+      shows = at_put s.guards v.four k new lt (λ j a b. a ≡ true → copy_of b l r ≡ after (with_at k pb f j) empty)
           (λ o. rw (same_at k pb f) read) (λ j ne o. rw (other_at k pb f j ne) (v.shows j o));
-      stale = at-put s.guards v.four k new lt (λ j a b. a ≡ true → b ≡ not right → Held h.cleared h.snapped i snap s.epoch)
+      stale = at_put s.guards v.four k new lt (λ j a b. a ≡ true → b ≡ not right → Held h.cleared h.snapped i snap s.epoch)
           (λ o q. not_self right q) (λ j ne. v.stale j);
-      waited = at-put s.guards v.four k new lt (λ j a b. a ≡ true → Held h.emptied h.resnapped i snap s.epoch)
+      waited = at_put s.guards v.four k new lt (λ j a b. a ≡ true → Held h.emptied h.resnapped i snap s.epoch)
           (λ o. new-held) (λ j ne. v.waited j);
     }
 
 -- a guard closes
-pub released-view :
+pub released_view :
     {right : Bool} {h : Reach} {i snap : ℕ} {l r : List ℕ} {f : ℕ → List Op} {s : Slot} (j : ℕ) → View right h i snap l r f s →
     is_open s.guards j ≡ true → View right h i snap l r f (released j s)
-released-view {right} {h} {i} {snap} {l} {r} {f} {s} j v o =
+released_view {right} {h} {i} {snap} {l} {r} {f} {s} j v o =
     let (u, od, du) = guard_inside v.shape j o in
     let lt : j < guard_count = open_below s.guards j o in
     let gs : List Guard = put_guard j shut s.guards in
@@ -144,11 +144,11 @@ released-view {right} {h} {i} {snap} {l} {r} {f} {s} j v o =
     (λ q. record {
       four = put_four s.guards v.four j shut lt;
       shape = inside u od du q;
-      shows = at-put s.guards v.four j shut lt (λ k a b. a ≡ true → copy_of b l r ≡ after (f k) empty)
+      shows = at_put s.guards v.four j shut lt (λ k a b. a ≡ true → copy_of b l r ≡ after (f k) empty)
           (λ z. clash z refl) (λ k ne. v.shows k);
-      stale = at-put s.guards v.four j shut lt (λ k a b. a ≡ true → b ≡ not right → Held h.cleared h.snapped i snap s.epoch)
+      stale = at_put s.guards v.four j shut lt (λ k a b. a ≡ true → b ≡ not right → Held h.cleared h.snapped i snap s.epoch)
           (λ z. clash z refl) (λ k ne. v.stale k);
-      waited = at-put s.guards v.four j shut lt (λ k a b. a ≡ true → Held h.emptied h.resnapped i snap s.epoch)
+      waited = at_put s.guards v.four j shut lt (λ k a b. a ≡ true → Held h.emptied h.resnapped i snap s.epoch)
           (λ z. clash z refl) (λ k ne. v.waited k);
     })
     (λ q. no_guards (put_four s.guards v.four j shut lt) (outside (odd_bumped s.epoch ∙ ap not od) du q) q)
@@ -162,26 +162,26 @@ module _ (c : Control) {h : Reach} {i snap : ℕ} {l r : List ℕ} {f : ℕ → 
     Kept hd m = View c.right h i snap l r (row_after hd (number m.answer) m.value pb f) m.slot
 
     -- the load of an enter or a go on
-    loaded-view :
+    loaded_view :
         (hd : Handle) → row_done hd (first_guard false s.guards) pb f ≡ with_at (first_guard false s.guards) pb f → (d : Due) →
         odd s.epoch ≡ true → (c.null ≡ false → all_open s.guards ≡ false) →
         View c.right h i snap l r f (with_due s.epoch d s) → Kept hd (loaded c d s)
-    loaded-view hd e d od room w =
-        by (Kept hd) c.null (λ z. w) (λ z. rw e (guarded-view v used od (room z) pb read (none z)))
+    loaded_view hd e d od room w =
+        by (Kept hd) c.null (λ z. w) (λ z. rw e (guarded_view v used od (room z) pb read (none z)))
 
     entered_view : is_due s.due ≡ false → all_open s.guards ≡ false → Kept Enter (entered c s)
     entered_view d room =
-        by (Kept Enter) (any_open s.guards) (λ e. loaded-view Enter refl s.due (occupied v.shape e) (λ _. room) v)
+        by (Kept Enter) (any_open s.guards) (λ e. loaded_view Enter refl s.due (occupied v.shape e) (λ _. room) v)
         (λ e. no_guards v.four (announced used (odd_bumped s.epoch ∙ ap not (at_rest v.shape d e)) refl e) e)
 
-    wentOn-view :
+    went_on_view :
         (d : Due) → s.due ≡ d → is_due d ≡ true → (is_load d ≡ true → c.null ≡ false → all_open s.guards ≡ false) →
         Kept GoOn (went_on c d s)
-    wentOn-view Nothing e q room = clash q refl
-    wentOn-view Load e q room =
+    went_on_view Nothing e q room = clash q refl
+    went_on_view Load e q room =
         let (od, sh) = waiting v.shape (rw e) in
-        loaded-view GoOn refl Restore od (room refl) (no_guards v.four (announced used od refl sh) sh)
-    wentOn-view Restore e q room =
+        loaded_view GoOn refl Restore od (room refl) (no_guards v.four (announced used od refl sh) sh)
+    went_on_view Restore e q room =
         let (od, sh) = waiting v.shape (rw e) in
         no_guards v.four (outside (odd_bumped s.epoch ∙ ap not od) refl sh) sh
 
@@ -190,10 +190,10 @@ module _ (c : Control) {h : Reach} {i snap : ℕ} {l r : List ℕ} {f : ℕ → 
 
     pub handled_view : (own : Bool) (hd : Handle) → OnPassed c own s hd → Kept hd (handled c i s hd l r)
     unfolding handled_by
-    handled_view own Drop u = freed-view c.free v (record { idle = timely own Drop u; alone = u.guards })
+    handled_view own Drop u = freed_view c.free v (record { idle = timely own Drop u; alone = u.guards })
     handled_view own Enter u = entered_view (timely own Enter u) u.fewer
-    handled_view own GoOn u = wentOn-view s.due refl (not-false _ (timely own GoOn u)) (lacks_none _ _ _ u.fewer)
-    handled_view own (Release j) u = released-view j v (not-false _ u.guard)
+    handled_view own GoOn u = went_on_view s.due refl (not-false _ (timely own GoOn u)) (lacks_none _ _ _ u.fewer)
+    handled_view own (Release j) u = released_view j v (not-false _ u.guard)
     handled_view own (LookUp j key) u = v
     handled_view own WasDropped u = v
 
@@ -268,27 +268,27 @@ module _ {right : Bool} {h : Reach} {i snap : ℕ} {l r : List ℕ} {f : ℕ →
       found j o = rw ((guard_inside v.shape j o).0, seen) refl
 
   -- the poll of slot k, which is not held, finds no guard that a snapshot knows
-  pub passed-held :
+  pub passed_held :
       {k n : ℕ} → k < n → (i ≡ k → holds s snap ≡ false) → (j : ℕ) → is_open s.guards j ≡ true → Held k n i snap s.epoch →
       Held (k + 1) n i snap s.epoch
   unfolding odd
-  passed-held {k} lt p j o (c, q) = elim (ℕ_discrete i k) [
+  passed_held {k} lt p j o (c, q) = elim (ℕ_discrete i k) [
     | yes e ↦ let (u, od, du) = guard_inside v.shape j o in
         clash {b = holds s snap} (rw (q (omega arith), u, od, eq-eqb s.epoch s.epoch refl)) (p e)
     | no ne ↦ (omega arith, q)
   ]
 
 -- the poll of slot k; g: what comes of what is said of all guards
-pub polled-view :
+pub polled_view :
     {right : Bool} {i k m x y snap : ℕ} {l r : List ℕ} {f : ℕ → List Op} {s : Slot} (first : Bool) →
     View right (firstly first (reach k slot_count x y)) i snap l r f s → k < slot_count → (i ≡ k → holds s snap ≡ false) →
     ((j : ℕ) → is_open s.guards j ≡ true → Held x y i snap s.epoch → Held m y i snap s.epoch) →
     View right (firstly first (reach (k + 1) slot_count m y)) i snap l r f s
-polled-view true v lt p g = record { four = v.four; shape = v.shape; shows = v.shows; stale = v.stale; waited = λ j o. g j o (v.waited j o) }
-polled-view false v lt p g = record {
+polled_view true v lt p g = record { four = v.four; shape = v.shape; shows = v.shows; stale = v.stale; waited = λ j o. g j o (v.waited j o) }
+polled_view false v lt p g = record {
   four = v.four;
   shape = v.shape;
   shows = v.shows;
-  stale = λ j o e. passed-held v lt p j o (v.stale j o e);
+  stale = λ j o e. passed_held v lt p j o (v.stale j o e);
   waited = λ j o. g j o (v.waited j o);
 }

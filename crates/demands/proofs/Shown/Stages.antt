@@ -21,7 +21,7 @@ use Rattle.read.specs.declared.Control.{Control}
 use Rattle.read.specs.Machine.{slot_count, is_gone, nulls}
 use Rattle.write.specs.Steps.{keeping, draining, polled, polling, beginning, published, next_job, last_polling, last_snapping, snapping}
 use Rattle.write.specs.Begins.{taking}
-use Rattle.write.proofs.Cases.{keeping_cases, draining_cases, polled-cases, polling_cases, beginning_cases, last_polling_cases, last_snapping_cases, snapping-cases}
+use Rattle.write.proofs.Cases.{keeping_cases, draining_cases, polled_cases, polling_cases, beginning_cases, last_polling_cases, last_snapping_cases, snapping_cases}
 use Rattle.demands.proofs.Shown.Invariant.{Stage, early, late, Lacks, is_second, Reach, reach, before, reach_at, firstly}
 use Rattle.demands.proofs.Shown.Log.{no_op}
 
@@ -57,7 +57,7 @@ stands_draining s n = draining_cases (Stands full) s n (λ _. here refl) (λ _. 
 
 stands_polled : (c : Control) → Stands full (polled c)
 stands_polled c =
-    polled-cases (Stands full) c (λ _. here refl) (λ _ _. here refl) (λ _ _. stands_draining c.swapped c.length)
+    polled_cases (Stands full) c (λ _. here refl) (λ _ _. here refl) (λ _ _. stands_draining c.swapped c.length)
 
 pub stands_polling : (c : Control) (k : ℕ) → k ≤ slot_count → Stands (before k slot_count) (polling c k)
 stands_polling c k h =
@@ -90,7 +90,7 @@ stands_published TakeSecond n = here refl
 
 pub stands_snapping : (c : Control) (k : ℕ) → k ≤ slot_count → Stands (before 0 k) (snapping c k).phase
 stands_snapping c k h =
-    snapping-cases (λ d. Stands (before 0 k) d.phase) c k (λ _. here refl)
+    snapping_cases (λ d. Stands (before 0 k) d.phase) c k (λ _. here refl)
     (λ g. let q : slot_count ≡ k = omega arith in thus (ap (before 0) q) (stands_published c.job c.length))
 
 pub stands_last_polling : (k : ℕ) → k ≤ slot_count → Stands (reach k slot_count k slot_count) (last_polling k)
@@ -141,79 +141,79 @@ onward null lock p j c = steered null lock c.second p j c.length c.swapped c
 
 -- that is all that the snapshots change
 pub snapping_onward : (c : Control) (k : ℕ) → snapping c k ≡ onward c.null (snapping c k).lock (snapping c k).phase (snapping c k).job c
-snapping_onward c k = snapping-cases (λ d. d ≡ onward c.null d.lock d.phase d.job c) c k (λ _. refl) (λ _. refl)
+snapping_onward c k = snapping_cases (λ d. d ≡ onward c.null d.lock d.phase d.job c) c k (λ _. refl) (λ _. refl)
 
 -- ---- the stage where the writer goes on
 
 module _ {os : List Op} {r w : List ℕ} {acc pb : List Op} where
-  stage-keeping :
+  stage_keeping :
       {f b : Bool} {j : Job} {s : ℕ} (n k : ℕ) → length os ≡ n → f ≡ false → b ≡ false → s ≡ 0 → acc ≡ pb ++ drop s os →
       w ≡ after (take k os) r → (is_second j ≡ true → s ≡ length os) → Stage (keeping n k) j b s os r w acc pb f
-  stage-keeping {f} {b} {j} {s} n k ln e q z sp h em =
+  stage_keeping {f} {b} {j} {s} n k ln e q z sp h em =
       keeping_cases (λ p. Stage p j b s os r w acc pb f) n k
       (λ g. late e (record { behind = sp; holds = (q, z, h); empties = em }))
       (λ g. late e (record { behind = sp; holds = (q, z, h ∙ ap (λ (x : List Op). after x r) (take_all k os (omega arith))); empties = em }))
 
-  stage-draining :
+  stage_draining :
       {f b : Bool} {j : Job} {s : ℕ} (n : ℕ) → length os ≡ n → f ≡ false → b ≡ false → acc ≡ pb ++ drop s os → after (take s os) w ≡ r →
       (is_second j ≡ true → s ≡ length os) → Stage (draining s n) j b s os r w acc pb f
-  stage-draining {f} {b} {j} {s} n ln e q sp h em =
+  stage_draining {f} {b} {j} {s} n ln e q sp h em =
       draining_cases (λ p. Stage p j b s os r w acc pb f) s n
       (λ g. late e (record { behind = sp; holds = (q, h); empties = em }))
-      (λ z. stage-keeping n 0 ln e q z sp (subst (λ (x : ℕ). after (take x os) w ≡ r) z h) em)
+      (λ z. stage_keeping n 0 ln e q z sp (subst (λ (x : ℕ). after (take x os) w ≡ r) z h) em)
 
   -- the polls are over
-  stage-polled :
+  stage_polled :
       (c : Control) → length os ≡ c.length → Stage Begin c.job c.second c.swapped os r w acc pb c.first →
       Stage (polled c) c.job c.second c.swapped os r w acc pb c.first
-  stage-polled c ln (early e h) =
-      polled-cases (λ p. Stage p c.job c.second c.swapped os r w acc pb c.first) c (λ _. early e h) (λ q _. clash e q) (λ q _. clash e q)
-  stage-polled c ln (late e h) =
-      polled-cases (λ p. Stage p c.job c.second c.swapped os r w acc pb c.first) c (λ q. clash q e)
+  stage_polled c ln (early e h) =
+      polled_cases (λ p. Stage p c.job c.second c.swapped os r w acc pb c.first) c (λ _. early e h) (λ q _. clash e q) (λ q _. clash e q)
+  stage_polled c ln (late e h) =
+      polled_cases (λ p. Stage p c.job c.second c.swapped os r w acc pb c.first) c (λ q. clash q e)
       (λ _ q. late e (record { behind = h.behind; holds = subst (λ (b : Bool). Lacks b c.swapped os r w) q h.holds; empties = h.empties }))
-      (λ _ q. stage-draining c.length ln e q h.behind (subst (λ (b : Bool). Lacks b c.swapped os r w) q h.holds) h.empties)
+      (λ _ q. stage_draining c.length ln e q h.behind (subst (λ (b : Bool). Lacks b c.swapped os r w) q h.holds) h.empties)
 
   -- the polls change nothing
-  pub stage-polling :
+  pub stage_polling :
       (c : Control) (k : ℕ) → length os ≡ c.length → Stage Begin c.job c.second c.swapped os r w acc pb c.first →
       Stage (polling c k) c.job c.second c.swapped os r w acc pb c.first
-  stage-polling c k ln h =
-      polling_cases (λ p. Stage p c.job c.second c.swapped os r w acc pb c.first) c k (λ _. to_poll h) (λ _. stage-polled c ln h)
+  stage_polling c k ln h =
+      polling_cases (λ p. Stage p c.job c.second c.swapped os r w acc pb c.first) c k (λ _. to_poll h) (λ _. stage_polled c ln h)
     where
       to_poll : {j : Job} {b : Bool} {s : ℕ} {f : Bool} → Stage Begin j b s os r w acc pb f → Stage (Poll k) j b s os r w acc pb f
       to_poll (early e h) = early e h
       to_poll (late e h) = late e (record { behind = h.behind; holds = h.holds; empties = h.empties })
 
-  pub stage-beginning :
+  pub stage_beginning :
       (c : Control) → length os ≡ c.length → Stage Begin c.job c.second c.swapped os r w acc pb c.first →
       Stage (beginning c) c.job c.second c.swapped os r w acc pb c.first
-  stage-beginning c ln h =
-      beginning_cases (λ p. Stage p c.job c.second c.swapped os r w acc pb c.first) c (λ e. to_swap e h) (λ _. stage-polling c 0 ln h)
+  stage_beginning c ln h =
+      beginning_cases (λ p. Stage p c.job c.second c.swapped os r w acc pb c.first) c (λ e. to_swap e h) (λ _. stage_polling c 0 ln h)
     where
       to_swap : {j : Job} {b : Bool} {s : ℕ} {f : Bool} → f ≡ true → Stage Begin j b s os r w acc pb f → Stage Swap j b s os r w acc pb f
       to_swap q (early e h) = early e h
       to_swap q (late e h) = clash q e
 
-  stage-published :
+  stage_published :
       {f b : Bool} {s : ℕ} (n : ℕ) (j : Job) → length os ≡ n → f ≡ false → acc ≡ pb ++ drop s os → Lacks b s os r w → s ≡ length os →
       (is_second j ≡ true → os ≡ []) → Stage (published j n) (next_job j) b s os r w acc pb f
-  stage-published n Publish ln e sp h z em = late e (record { behind = sp; holds = h; empties = tt })
-  stage-published n Try ln e sp h z em = late e (record { behind = sp; holds = h; empties = tt })
-  stage-published {f} {b} {s} n TakeFirst ln e sp h z em =
+  stage_published n Publish ln e sp h z em = late e (record { behind = sp; holds = h; empties = tt })
+  stage_published n Try ln e sp h z em = late e (record { behind = sp; holds = h; empties = tt })
+  stage_published {f} {b} {s} n TakeFirst ln e sp h z em =
       below (λ p. Stage p TakeSecond b s os r w acc pb f) 0 n
       (λ g. late e (record { behind = sp; holds = h; empties = λ _. z }))
       (λ g. late e (record { behind = sp; holds = tt; empties = no_ops os (omega arith) }))
-  stage-published n TakeSecond ln e sp h z em = late e (record { behind = sp; holds = tt; empties = em refl })
+  stage_published n TakeSecond ln e sp h z em = late e (record { behind = sp; holds = tt; empties = em refl })
 
   -- behind the swap
-  pub stage-snapping :
+  pub stage_snapping :
       (c : Control) (k : ℕ) → length os ≡ c.length → c.first ≡ false → acc ≡ pb ++ drop c.swapped os →
       Lacks c.second c.swapped os r w → c.swapped ≡ length os → (is_second c.job ≡ true → os ≡ []) →
       Stage (snapping c k).phase (snapping c k).job c.second c.swapped os r w acc pb c.first
-  stage-snapping c k ln e sp h z em =
-      snapping-cases (λ d. Stage d.phase d.job c.second c.swapped os r w acc pb c.first) c k
+  stage_snapping c k ln e sp h z em =
+      snapping_cases (λ d. Stage d.phase d.job c.second c.swapped os r w acc pb c.first) c k
       (λ g. late e (record { behind = sp; holds = h; empties = (z, em) }))
-      (λ g. stage-published c.length c.job ln e sp h z em)
+      (λ g. stage_published c.length c.job ln e sp h z em)
 
 -- ---- each step
 
@@ -236,41 +236,41 @@ module _ {j : Job} {b : Bool} {s : ℕ} {os : List Op} {r w : List ℕ} {acc pb 
   pub copy_stage : (n : ℕ) → length os ≡ n → Stage Copy j b s os r w acc pb f → Stage (draining s n) j false s os r r acc pb f
   copy_stage n ln (early e h) = clash h.0 refl
   copy_stage n ln (late e h) =
-      stage-draining n ln e refl h.behind (subst (λ (x : ℕ). after (take x os) r ≡ r) (sym h.holds) refl) h.empties
+      stage_draining n ln e refl h.behind (subst (λ (x : ℕ). after (take x os) r ≡ r) (sym h.holds) refl) h.empties
 
   -- an operation that the read copy has already
-  pub drain-stage :
+  pub drain_stage :
       (n s' : ℕ) (o : Op) (os' : List Op) → length os' ≡ n → s ≡ suc s' → os ≡ o ∷ os' → Stage Drain j b s os r w acc pb f →
       Stage (draining s' n) j b s' os' r (after (o ∷ []) w) acc pb f
-  drain-stage n s' o os' ln z q (early e h) = clash h.0 refl
-  drain-stage n s' o os' ln z q (late e h) =
-      stage-draining n ln e h.holds.0 (h.behind ∙ (λ t. pb ++ drop (z t) (q t))) ((λ t. after (take (sym z t) (sym q t)) w) ∙ h.holds.1)
+  drain_stage n s' o os' ln z q (early e h) = clash h.0 refl
+  drain_stage n s' o os' ln z q (late e h) =
+      stage_draining n ln e h.holds.0 (h.behind ∙ (λ t. pb ++ drop (z t) (q t))) ((λ t. after (take (sym z t) (sym q t)) w) ∙ h.holds.1)
       (λ x. let a = h.empties x in let d : length os ≡ suc (length os') = ap length q in omega arith)
 
   -- one that it has not
-  pub keep-stage :
+  pub keep_stage :
       {k : ℕ} (n : ℕ) → length os ≡ n → k < n → Stage (Keep k) j b s os r w acc pb f →
       Stage (keeping n (k + 1)) j b s os r (after (get_or os k no_op ∷ []) w) acc pb f
-  keep-stage n ln lt (early e h) = clash h.0 refl
-  keep-stage {k} n ln lt (late e h) =
-      stage-keeping n (k + 1) ln e h.holds.0 h.holds.1 h.behind
+  keep_stage n ln lt (early e h) = clash h.0 refl
+  keep_stage {k} n ln lt (late e h) =
+      stage_keeping n (k + 1) ln e h.holds.0 h.holds.1 h.behind
       (ap (after (get_or os k no_op ∷ [])) h.holds.2
       ∙ sym (rw (add-one, take-suc os k no_op (omega arith)) (after_append (take k os) (get_or os k no_op ∷ []) r)))
       h.empties
 
-  pub snap-stage :
+  pub snap_stage :
       {k : ℕ} → Stage (Snap k) j b s os r w acc pb f →
       (f ≡ false) × (acc ≡ pb ++ drop s os) × Lacks b s os r w × (s ≡ length os) × (is_second j ≡ true → os ≡ [])
-  snap-stage (early e h) = clash h.0 refl
-  snap-stage (late e h) = (e, h.behind, h.holds, h.empties.0, h.empties.1)
+  snap_stage (early e h) = clash h.0 refl
+  snap_stage (late e h) = (e, h.behind, h.holds, h.empties.0, h.empties.1)
 
   -- the write copy holds all that was accepted, and lacks nothing of what it will be read for
-  pub swap-stage :
+  pub swap_stage :
       Stage Swap j b s os r w acc pb f → r ≡ after pb empty →
       (w ≡ after acc empty) × Lacks b (length os) os w r × (is_second j ≡ true → os ≡ [])
-  swap-stage (early e h) q =
+  swap_stage (early e h) q =
       (h.1.holds, subst (λ (x : Bool). Lacks x (length os) os w r) (sym h.1.unsynced) (ap length h.1.unlogged), λ _. h.1.unlogged)
-  swap-stage (late e h) q = (
+  swap_stage (late e h) q = (
     all,
     subst (λ (x : Bool). Lacks x (length os) os w r) (sym h.holds.0) (rw (take-length os) (sym h.holds.2)),
     λ x. no_ops os (let a = h.empties x in let d = h.holds.1 in omega arith),
@@ -280,10 +280,10 @@ module _ {j : Job} {b : Bool} {s : ℕ} {os : List Op} {r w : List ℕ} {acc pb 
       all = h.holds.2 ∙ sym (ap (λ (x : List Op). after x empty) (h.behind ∙ ap (λ (x : ℕ). pb ++ drop x os) h.holds.1) ∙ after_append pb os empty ∙ ap (after os) (sym q))
 
   -- operations are accepted
-  pub log-stage :
+  pub log_stage :
       (ns : List Op) → f ≡ false → s ≤ length os → Stage Idle j b s os r w acc pb f → Stage Idle j b s (os ++ ns) r w (acc ++ ns) pb f
-  log-stage ns q within (early e h) = clash e q
-  log-stage ns q within (late e h) = late e (record {
+  log_stage ns q within (early e h) = clash e q
+  log_stage ns q within (late e h) = late e (record {
     behind = rw (h.behind, drop-append-le s os ns within) (append_assoc pb (drop s os) ns);
     holds = go b h.holds;
     empties = tt;
@@ -305,11 +305,11 @@ module _ {j : Job} {b : Bool} {s : ℕ} {os : List Op} {r w : List ℕ} {acc pb 
   apply_stage ns q (late e h) = clash q e
 
 -- a take begins
-pub take-stage :
+pub take_stage :
     {j : Job} {os : List Op} {r w : List ℕ} {acc pb : List Op} (c : Control) → length os ≡ c.length →
     Stage Idle j c.second c.swapped os r w acc pb c.first →
     Stage (taking c) TakeFirst c.second c.swapped os r w acc pb c.first
-take-stage {j} {os} {r} {w} {acc} {pb} c ln h =
+take_stage {j} {os} {r} {w} {acc} {pb} c ln h =
     by (λ p. Stage p TakeFirst c.second c.swapped os r w acc pb c.first) (c.first || ltb 0 c.length)
     (λ _. begin_stage refl h)
     (λ q.
@@ -363,26 +363,26 @@ module _ {j : Job} {b : Bool} {s : ℕ} {os : List Op} {r w : List ℕ} {acc pb 
         last_snapping_cases (λ p. Stage p j b s os r w acc pb f) k
         (λ _. late h.swapped (record { behind = h.behind; holds = tt; empties = h.spent })) (λ _. to_last_polling 0)
 
-pub to-gone :
+pub to_gone :
     {j : Job} {b : Bool} {s : ℕ} {os : List Op} {r w : List ℕ} {acc pb : List Op} {f : Bool} → Ending s os acc pb f → w ≡ empty →
     Stage Gone j b 0 [] r w acc pb f
-to-gone {s} {pb} h z = late h.swapped (record {
+to_gone {s} {pb} h z = late h.swapped (record {
   behind = h.behind ∙ ap (λ (x : List Op). pb ++ x) (ap (drop s) h.spent ∙ drop-nil s);
   holds = z;
   empties = refl;
 })
 
 -- what take leaves is all that was accepted, and the other copy is empty
-pub gone-stage :
+pub gone_stage :
     {j : Job} {b : Bool} {s : ℕ} {os : List Op} {r w : List ℕ} {acc pb : List Op} {f : Bool} → Stage Gone j b s os r w acc pb f →
     (acc ≡ pb) × (w ≡ empty)
-gone-stage (early e h) = clash h.0 refl
-gone-stage {s} {pb} (late e h) =
+gone_stage (early e h) = clash h.0 refl
+gone_stage {s} {pb} (late e h) =
     (h.behind ∙ ap (λ (x : List Op). pb ++ x) (ap (drop s) h.empties ∙ drop-nil s) ∙ append-nil pb, h.holds)
 
 -- before the first swap nothing is logged
-pub early-empty :
+pub early_empty :
     {p : Phase} {j : Job} {b : Bool} {s : ℕ} {os : List Op} {r w : List ℕ} {acc pb : List Op} {f : Bool} → f ≡ true →
     Stage p j b s os r w acc pb f → os ≡ []
-early-empty q (early e h) = h.1.unlogged
-early-empty q (late e h) = clash q e
+early_empty q (early e h) = h.1.unlogged
+early_empty q (late e h) = clash q e

@@ -29,12 +29,12 @@ clear_logged_all (o ∷ os) n g c x b =
     clear_logged_all os (suc n) (logged n o.kind o.key o.amount g) (clear_logged n o.kind o.key o.amount g c) x (omega arith)
 
 -- where the words behind those that move down are zero, all behind them is zero afterwards
-closed-zero :
+closed_zero :
     (d m : ℕ) (g : List ℕ) → d + m ≤ length g → ((x : ℕ) → d + m ≤ x → get_or g x 0 ≡ 0) → (x : ℕ) → m ≤ x → get_or (closed d m g) x 0 ≡ 0
-closed-zero d m g h c x b =
+closed_zero d m g h c x b =
     under x (d + m) (λ l. closed_left d m g h x b l) (λ l. closed_behind d m g h x l ∙ c x l)
 
 pub clear_unlogged : (n : ℕ) (g : List ℕ) → 0 < n → n ≤ log_room → length g ≡ log_words → ClearLog n g → ClearLog (n - 1) (unlogged n g)
 clear_unlogged n g some room sized c x b =
     rw (le-leb n log_room room, unlogged, close_room 3 (3 * (n - 1)) g (omega arith))
-    (closed-zero 3 (3 * (n - 1)) g (omega arith) (λ y h. c y (omega arith)) x b)
+    (closed_zero 3 (3 * (n - 1)) g (omega arith) (λ y h. c y (omega arith)) x b)

@@ -1,7 +1,7 @@
 -- Each public contract as a promise of any program, a program being a function of the arguments (`Contracts`).
 use Prim.Native.Nat.{ℕ}
 use mathlib.Core.List.{List}
-use Rattle.promises.proofs.Contracts.{typed, Bytes, ref, κ₁, Leaves, Keeps}
+use Rattle.promises.proofs.Contracts.{typed, Bytes, ref, mut_ref, κ₁, Leaves, Keeps}
 use Rattle.format.specs.declared.Fields.{Fields}
 use Rattle.format.specs.declared.Flaw.{Flaw}
 use Rattle.format.specs.Schedule.{count, fields_at, flaw_of}
@@ -24,8 +24,8 @@ CheckPromise f =
 abbrev pub PutPromise : (ℕ → ℕ → ℕ → List ℕ → List ℕ) → Type 0
 PutPromise f =
     (a v at : ℕ) (out : Bytes) →
-    Leaves (typed κ₁ proofs.put.Kinds.ps) (proofs.put.Reads.Post κ₁) (ref out.list, (at, (a, (v, tt)))) tt
-    (ref (f a v at out.list), (at, (a, (v, tt))))
+    Leaves (typed κ₁ proofs.put.Kinds.ps) (proofs.put.Reads.Post κ₁) (mut_ref out.list, (at, (a, (v, tt)))) tt
+    (mut_ref (f a v at out.list), (at, (a, (v, tt))))
 
 -- the rules keep them: no promise is false of every program
 pub kept : CountPromise count × FieldsPromise fields_at × CheckPromise flaw_of × PutPromise put_rule

@@ -1,6 +1,6 @@
 -- Each public contract determines what comes back and the record that is left: any two results that it allows are equal.
--- `Post` is the contract itself, as the check reads it from the source. A reference to a record has no such reading, so what the
--- contract of `release` says is written out here, and `release-says` shows that it is that contract.
+-- `Post` is the contract itself, as the check reads it from the source. What the contract of `release` says of the record behind its
+-- reference is written out here, and `release_says` shows that it is that contract.
 use mathlib.Core.Path.{◌≡◌, refl, sym, ap, ◌∙◌}
 use Prim.Native.Nat.{ℕ}
 use seplogic.Ra.Ura.{Ura}
@@ -29,10 +29,10 @@ leave_determined κs a r q s t h l = h ∙ sym l
 abbrev pub Says : ℕ → Slot → Answer → Slot → Type 0
 Says j before a after = record { answer = a; slot = after } ≡ release_rule j before
 
-release-says :
+release_says :
     {M : Type 1} {𝓤 : Ura M} (𝓛 : Logic 𝓤) (mem : Memory → SProp 𝓤) (run : Routine → Fun 𝓤) (κs : Lfts 1) (x : Args release.signature κs) (a : Answer) (e : _) →
     (release.clauses 𝓛 mem run κs x).ensures tt a e ≡ fact 𝓤 (Says x.1.0 x.0.now a e.0.now)
-release-says 𝓛 mem run κs x a e = refl
+release_says 𝓛 mem run κs x a e = refl
 
 release_determined : (j : ℕ) (before : Slot) (a b : Answer) (s t : Slot) → Says j before a s → Says j before b t → (a ≡ b) × (s ≡ t)
 release_determined j before a b s t h l =

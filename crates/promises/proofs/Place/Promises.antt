@@ -1,7 +1,7 @@
 -- Each public contract as a promise of any program, a program being a function of the arguments (`Contracts`). The three
 -- functions of this crate promise the same, of the answer and the record after it.
--- `release` has its record behind a reference, and so neither `Post` nor `Kinds`: `Says` is its contract (`release-says`), of the records
--- and guards that `leave` has, which passes it both.
+-- `release` has its record behind a reference: `Says` is its contract (`release_says`), of the records and guards that `leave` has, which
+-- passes it both.
 use Prim.Native.Nat.{ℕ}
 use mathlib.Core.Bool.{Bool}
 use Rattle.promises.proofs.Contracts.{typed, Leaves, Keeps}

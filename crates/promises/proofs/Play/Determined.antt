@@ -5,8 +5,8 @@ use Rattle.play.specs.Player.{Output}
 use Rattle.play.proofs.lrt_play.Reads as lrt_play
 
 -- what comes back, and the whole output
-lrt-play-determined :
+lrt_play_determined :
     (κs : _) (a : _) (r q : _) (s t : _) → lrt_play.Post κs a r s → lrt_play.Post κs a q t →
     (r ≡ q) × (s.1.0.now ≡ t.1.0.now)
-lrt-play-determined κs a r q s t h l =
+lrt_play_determined κs a r q s t h l =
     (ap (λ (z : Output). z.result) (h ∙ sym l), ap (λ (z : Output). z.bytes) (h ∙ sym l))

@@ -96,18 +96,18 @@ turns turn s (at ∷ ats) w = let t = turn s at w in t.bytes ++ turns turn s ats
 
 -- what is wrong with a file, how many bytes its transcript has, and the turns
 module _ (flawed : List ℕ → Flaw) (needs : List ℕ → ℕ) (turn : Turn) where
-  abbrev refusalBy : List ℕ → ℕ → ℕ
-  refusalBy s m =
+  abbrev refusal_by : List ℕ → ℕ → ℕ
+  refusal_by s m =
       elim (eqb (flawed s).answer 0) [ true ↦ elim (leb (needs s) m) [ true ↦ 0 | false ↦ 25 ] | false ↦ (flawed s).answer ]
 
-  abbrev playBy : Player
-  playBy s out =
+  abbrev play_by : Player
+  play_by s out =
       let rs = drop head_bytes s in
-      elim (eqb (refusalBy s (length out)) 0) [
+      elim (eqb (refusal_by s (length out)) 0) [
         | true ↦
             output (record { answer = 0; written = needs s })
             (turns turn rs (units_from rs 0 0 (length rs / record_bytes)) fresh_world ++ drop (needs s) out)
-        | false ↦ output (record { answer = refusalBy s (length out); written = 0 }) out
+        | false ↦ output (record { answer = refusal_by s (length out); written = 0 }) out
       ]
 
 -- the right parts
@@ -118,17 +118,17 @@ abbrev right_turn : Turn
 right_turn = turn_by decoded call_rule entry_of
 
 -- the turns of any machine are what it plays
-turns-played :
+turns_played :
     (decode : List ℕ → ℕ → Call) (m : Machine) (s ats : List ℕ) (w : World) →
     turns (turn_by decode m entry_of) s ats w ≡ entries_of (played m (map (decode s) ats) w).replies
 unfolding played entries_of
-turns-played decode m s [] w = refl
-turns-played decode m s (at ∷ ats) w =
+turns_played decode m s [] w = refl
+turns_played decode m s (at ∷ ats) w =
     let o = reply m (decode s at) w in
-    ap (λ (b : List ℕ). entry_of (answer_of o) (value_of o) ++ b) (turns-played decode m s ats (world_of o))
+    ap (λ (b : List ℕ). entry_of (answer_of o) (value_of o) ++ b) (turns_played decode m s ats (world_of o))
 
 -- the right parts keep the promise
-right_plays : (s out : List ℕ) → playBy flaw_of entries_need right_turn s out ≡ play_rule s out
+right_plays : (s out : List ℕ) → play_by flaw_of entries_need right_turn s out ≡ play_rule s out
 unfolding play_rule
 right_plays s out =
     let rs = drop head_bytes s in
@@ -138,14 +138,14 @@ right_plays s out =
       | true ↦ output (record { answer = 0; written = entries_need s }) (w ++ drop (entries_need s) out)
       | false ↦ output (record { answer = refusal_of s (length out); written = 0 }) out
     ])
-    (turns-played decoded call_rule rs (units_from rs 0 0 (length rs / record_bytes)) fresh_world)
+    (turns_played decoded call_rule rs (units_from rs 0 0 (length rs / record_bytes)) fresh_world)
 
-right_keeps : PlayPromise (playBy flaw_of entries_need right_turn)
+right_keeps : PlayPromise (play_by flaw_of entries_need right_turn)
 right_keeps s out typed = right_plays s.list out.list
 
 -- with other turns, over another machine, or with another reading of a record
 abbrev turning : Turn → Player
-turning = playBy flaw_of entries_need
+turning = play_by flaw_of entries_need
 
 abbrev over : Machine → Player
 over m = turning (turn_by decoded m entry_of)
@@ -187,7 +187,7 @@ cut_to32_wrong h = apart (byte 59) refl (h large room refl)
 
 -- ---- an entry has ten bytes
 
-ten_bytes_wrong : PlayPromise (playBy flaw_of (λ s. 10 * entries_in s) (turn_by decoded call_rule (λ a v. a ∷ bytes_of 9 v))) → ⊥
+ten_bytes_wrong : PlayPromise (play_by flaw_of (λ s. 10 * entries_in s) (turn_by decoded call_rule (λ a v. a ∷ bytes_of 9 v))) → ⊥
 unfolding rules
 ten_bytes_wrong h = apart reported refl (h creates room refl)
 
@@ -198,7 +198,7 @@ member_entries s at w =
     let t = right_turn s at w in
     record { bytes = t.bytes ++ replicate (entry_bytes * members_at s at) 0; world = t.world }
 
-member_entries_wrong : PlayPromise (playBy flaw_of (λ s. entry_bytes * count s) member_entries) → ⊥
+member_entries_wrong : PlayPromise (play_by flaw_of (λ s. entry_bytes * count s) member_entries) → ⊥
 unfolding rules
 member_entries_wrong h = apart reported refl (h two (slice (replicate 81 170) refl) refl)
 
@@ -239,18 +239,18 @@ all_of_many_wrong h = apart (byte 0) refl (h too_many room refl)
 
 -- ---- 24 is found before 23; a batch that is cut short, or has another in it, is played; 24 is found at its record's turn
 
-unknown_first_wrong : PlayPromise (playBy unknown_first entries_need right_turn) → ⊥
+unknown_first_wrong : PlayPromise (play_by unknown_first entries_need right_turn) → ⊥
 unfolding rules
 unknown_first_wrong h = apart answered refl (h unknown_torn no_room refl)
 
-cut_short_wrong : PlayPromise (playBy cut_short entries_need right_turn) → ⊥
+cut_short_wrong : PlayPromise (play_by cut_short entries_need right_turn) → ⊥
 unfolding rules
 cut_short_wrong h = apart answered refl (h cut room refl)
 
 abbrev inside : Bytes
 inside = slice (head ++ (batch_of 1 ++ batch_of 0)) refl
 
-nested_wrong : PlayPromise (playBy nested entries_need right_turn) → ⊥
+nested_wrong : PlayPromise (play_by nested entries_need right_turn) → ⊥
 unfolding rules
 nested_wrong h = apart answered refl (h inside room refl)
 
@@ -400,7 +400,7 @@ unfolding rules
 boasting_refusals_wrong h = eqb-false 63 0 refl ((h p1 []).1 (eqb-false 25 0 refl)).reported
 
 -- 24 is given where 23 applies
-unknown_first_refusals_wrong : Refusals (playBy unknown_first entries_need right_turn) → ⊥
+unknown_first_refusals_wrong : Refusals (play_by unknown_first entries_need right_turn) → ⊥
 unfolding rules
 unknown_first_refusals_wrong h =
     let s = unknown_torn.list in
@@ -409,19 +409,19 @@ unknown_first_refusals_wrong h =
     omega arith
 
 -- a batch that is cut short, or has another in it, is played
-cut_short_refusals_wrong : Refusals (playBy cut_short entries_need right_turn) → ⊥
+cut_short_refusals_wrong : Refusals (play_by cut_short entries_need right_turn) → ⊥
 unfolding rules
 cut_short_refusals_wrong h =
     ((h cut.list room.list).0 refl).flawless 24 (Applies.cut_short 1 (leb-true 45 65 refl) refl (ltb-true 65 85 refl))
 
-nested_refusals_wrong : Refusals (playBy nested entries_need right_turn) → ⊥
+nested_refusals_wrong : Refusals (play_by nested entries_need right_turn) → ⊥
 unfolding rules
 nested_refusals_wrong h =
     ((h inside.list room.list).0 refl).flawless 24
     (Applies.mixed 0 0 refl (ltb-true 0 1 refl) (leb-true 45 45 refl) (eqb-false 15 8 refl))
 
 -- the records of a batch are counted with the entries
-member_entries_refusals_wrong : Refusals (playBy flaw_of (λ s. entry_bytes * count s) member_entries) → ⊥
+member_entries_refusals_wrong : Refusals (play_by flaw_of (λ s. entry_bytes * count s) member_entries) → ⊥
 unfolding rules
 member_entries_refusals_wrong h =
     let d = (h two.list (replicate 81 170)).0 refl in

@@ -109,10 +109,10 @@ judge_determined : Determines (within.judge).post
 judge_determined κs a r q s t h l = h ∙ sym l
 
 -- the answer with its state, and the three slices
-start-determined :
+start_determined :
     (κs : _) (a : _) (r q : _) (s t : _) → start.Post κs a r s → start.Post κs a q t →
     (r ≡ q) × (s.0.now ≡ t.0.now) × (s.1.0.now ≡ t.1.0.now) × (s.1.1.0.now ≡ t.1.1.0.now)
-start-determined κs a r q s t h l =
+start_determined κs a r q s t h l =
     (ap (λ (z : Lent Reply). z.made) (h ∙ sym l), ap (λ (z : Lent Reply). z.left) (h ∙ sym l), ap (λ (z : Lent Reply). z.right) (h ∙ sym l), ap (λ (z : Lent Reply). z.log) (h ∙ sym l))
 
 create_determined : Determines create.Post

@@ -2,7 +2,7 @@
 use Prim.Native.Nat.{ℕ}
 use mathlib.Core.Bool.{Bool, ◌||◌}
 use mathlib.Core.List.{List}
-use Rattle.promises.proofs.Contracts.{typed, Words, ref, Refs, refs, lends, κ₁, κ₂, κ₃, Leaves, Keeps, Keeps1, Keeps2}
+use Rattle.promises.proofs.Contracts.{typed, Words, ref, Refs, lends, mut_refs, mut_lends, κ₁, κ₂, κ₃, Leaves, Keeps, Keeps1, Keeps2}
 use Rattle.table.specs.declared.Answer.{Answer}
 use Rattle.table.specs.declared.Search.{Search}
 use Rattle.table.specs.Copy.{look_by}
@@ -147,7 +147,7 @@ abbrev pub StartPromise : (List ℕ → List ℕ → List ℕ → Lent Reply) �
 StartPromise f =
     (l r g : Words) →
     let o = f l.list r.list g.list in
-    Leaves (typed κ₃ whole.start.Kinds.ps) (whole.start.Reads.Post κ₃) (lends l r g) o.made (refs o.left o.right o.log)
+    Leaves (typed κ₃ whole.start.Kinds.ps) (whole.start.Reads.Post κ₃) (mut_lends l r g) o.made (mut_refs o.left o.right o.log)
 
 abbrev pub CreatePromise : (List ℕ → List ℕ → List ℕ → State → Reply) → Type 0
 CreatePromise f =

@@ -37,9 +37,9 @@ zero_determined κs a r q s t h l = h ∙ sym l
 close_gap_determined : (κs : _) (a : _) (r q : _) (s t : _) → close_gap.Post κs a r s → close_gap.Post κs a q t → s.0.now ≡ t.0.now
 close_gap_determined κs a r q s t h l = h ∙ sym l
 
-apply-by-determined :
+apply_by_determined :
     (κs : _) (a : _) (r q : _) (s t : _) → apply_by.Post κs a r s → apply_by.Post κs a q t → (r ≡ q) × (s.1.0.now ≡ t.1.0.now)
-apply-by-determined κs a r q s t h l = same h l
+apply_by_determined κs a r q s t h l = same h l
 
 apply_determined : (κs : _) (a : _) (r q : _) (s t : _) → apply.Post κs a r s → apply.Post κs a q t → (r ≡ q) × (s.0.now ≡ t.0.now)
 apply_determined κs a r q s t h l = same h l
@@ -59,10 +59,10 @@ look_up_by_determined κs a r q s t h l = h ∙ sym l
 look_up_determined : DeterminesWords look_up.Post
 look_up_determined κs a r q s t h l = h ∙ sym l
 
-look-up-all-determined :
+look_up_all_determined :
     (κs : _) (a : _) (r q : _) (s t : _) → look_up_all.Post κs a r s → look_up_all.Post κs a q t →
     (r ≡ q) × (s.1.1.0.now ≡ t.1.1.0.now)
-look-up-all-determined κs a r q s t h l = same h l
+look_up_all_determined κs a r q s t h l = same h l
 
 used_determined : DeterminesWords used.Post
 used_determined κs a r q s t h l = h ∙ sym l

@@ -7,7 +7,7 @@ use Rattle.table.specs.Answers.{number}
 use Rattle.table.specs.declared.Search.{Search}
 use Rattle.table.specs.Copy.{zeros, lawful, fitness, Out, apply_by, apply_rule, look_by, look_rule, used_rule, close_rule}
 use Rattle.table.specs.Many.{look_all_rule}
-use Rattle.promises.proofs.Contracts.{typed, Words, Ref, ref, κ₁, κ₃, Leaves, Keeps, Keeps1}
+use Rattle.promises.proofs.Contracts.{typed, Words, ref, MutRef, mut_ref, κ₁, κ₃, Leaves, Keeps, Keeps1}
 use Rattle.table.proofs
 
 -- ---- of numbers
@@ -42,8 +42,8 @@ LookAllPromise f =
     (v keys out : Words) →
     let o = f v.list keys.list out.list in
     Leaves (typed κ₃ proofs.look_up_all.Kinds.ps) (proofs.look_up_all.Reads.Post κ₃)
-    (ref v.list, (ref keys.list, (ref out.list, tt))) o.answer
-    (ref v.list, (ref keys.list, (ref o.copy, tt)))
+    (ref v.list, (ref keys.list, (mut_ref out.list, tt))) o.answer
+    (ref v.list, (ref keys.list, (mut_ref o.copy, tt)))
 
 abbrev pub UsedPromise : (List ℕ → List ℕ) → Type 0
 UsedPromise f =
@@ -54,18 +54,18 @@ UsedPromise f =
 abbrev pub ZeroPromise : (List ℕ → List ℕ) → Type 0
 ZeroPromise f =
     (w : Words) →
-    Leaves (typed κ₁ proofs.zero.Kinds.ps) (proofs.zero.Reads.Post κ₁) (ref w.list, tt) tt (ref (f w.list), tt)
+    Leaves (typed κ₁ proofs.zero.Kinds.ps) (proofs.zero.Reads.Post κ₁) (mut_ref w.list, tt) tt (mut_ref (f w.list), tt)
 
 abbrev pub ClosePromise : (ℕ → ℕ → List ℕ → List ℕ) → Type 0
 ClosePromise f =
     (g m : ℕ) (p : Words) →
-    Leaves (typed κ₁ proofs.close_gap.Kinds.ps) (proofs.close_gap.Reads.Post κ₁) (ref p.list, (g, (m, tt))) tt
-    (ref (f g m p.list), (g, (m, tt)))
+    Leaves (typed κ₁ proofs.close_gap.Kinds.ps) (proofs.close_gap.Reads.Post κ₁) (mut_ref p.list, (g, (m, tt))) tt
+    (mut_ref (f g m p.list), (g, (m, tt)))
 
 -- an operation with these numbers beside the copy
-abbrev Changes : {B : Type 0} → (Ref × B → Bool) → (Ref × B → Answer → Ref × B → Type 0) → B → (List ℕ → Out) → Type 0
+abbrev Changes : {B : Type 0} → (MutRef × B → Bool) → (MutRef × B → Answer → MutRef × B → Type 0) → B → (List ℕ → Out) → Type 0
 Changes has post b f =
-    (w : Words) → let o = f w.list in Leaves has post (ref w.list, b) o.answer (ref o.copy, b)
+    (w : Words) → let o = f w.list in Leaves has post (mut_ref w.list, b) o.answer (mut_ref o.copy, b)
 
 abbrev pub ApplyPromise : (ℕ → ℕ → ℕ → List ℕ → Out) → Type 0
 ApplyPromise f =
@@ -77,8 +77,8 @@ ApplyByPromise f =
     (how : Search) (kind key amount : ℕ) (w : Words) →
     let o = f how kind key amount w.list in
     Leaves (typed κ₁ proofs.apply_by.Kinds.ps) (proofs.apply_by.Reads.Post κ₁)
-    (how, (ref w.list, (kind, (key, (amount, tt))))) o.answer
-    (how, (ref o.copy, (kind, (key, (amount, tt)))))
+    (how, (mut_ref w.list, (kind, (key, (amount, tt))))) o.answer
+    (how, (mut_ref o.copy, (kind, (key, (amount, tt)))))
 
 abbrev pub AddPromise : (ℕ → ℕ → List ℕ → Out) → Type 0
 AddPromise f =

@@ -17,7 +17,7 @@ use Rattle.table.specs.Many.{filled, told, told_all, look_all_rule}
 use Rattle.table.specs.Copy.{pairs, words, entries, spill, key_at, count_at, used_of, pair_of, place_of, present, has_key, opened, closed, inserted, placed, added, dropped, removed, zeros, applied_by, lawful, fits, Out, apply_rule, apply_by, look_rule, look_by}
 use Rattle.table.proofs.Computes.{rules, apart}
 use Rattle.table.proofs.CopyWords.{get_d_zeros}
-use Rattle.table.proofs.CopyFind.{added-cases}
+use Rattle.table.proofs.CopyFind.{added_cases}
 use Rattle.read.specs.Handles.{bit}
 use Rattle.promises.proofs.Witnesses.{copy_with, copy, none, seven, falls, word_at, itself}
 use Rattle.promises.proofs.Contracts.{below, Words, slice}
@@ -289,7 +289,7 @@ no_spill_wrong : AddPromise no_spill → ⊥
 unfolding applied_by lawful apply_by
 no_spill_wrong h =
     apart (word 1)
-    (added-cases (λ v. eqb (word_at 1 (set v 1 0)) (word_at 1 v) ≡ false) 7 1 full.list
+    (added_cases (λ v. eqb (word_at 1 (set v 1 0)) (word_at 1 v) ≡ false) 7 1 full.list
     (λ i p. absurd (omega (arith, zero_key i, p.same))) (λ i a p l. absurd (omega (arith, l))) (λ a l. refl))
     (h 7 1 full refl)
 

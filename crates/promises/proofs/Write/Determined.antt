@@ -42,25 +42,25 @@ same {A} a b = (
 made_same : {A : Type 0} {x y : A} {l r g : List ℕ} {o : Lent A} → lent x l r g ≡ o → lent y l r g ≡ o → x ≡ y
 made_same a b = (same a b).0
 
-extend-determined :
+extend_determined :
     (κs : _) (a : _) (r q : _) (s t : _) → extend.Post κs a r s → extend.Post κs a q t →
     (r ≡ q) × (s.1.1.0.now ≡ t.1.1.0.now) × (s.1.1.1.0.now ≡ t.1.1.1.0.now) × (s.1.1.1.1.0.now ≡ t.1.1.1.1.0.now)
-extend-determined κs a r q s t h l = same h l
+extend_determined κs a r q s t h l = same h l
 
-append-determined :
+append_determined :
     (κs : _) (a : _) (r q : _) (s t : _) → append.Post κs a r s → append.Post κs a q t →
     (r ≡ q) × (s.1.1.1.1.0.now ≡ t.1.1.1.1.0.now) × (s.1.1.1.1.1.0.now ≡ t.1.1.1.1.1.0.now) × (s.1.1.1.1.1.1.0.now ≡ t.1.1.1.1.1.1.0.now)
-append-determined κs a r q s t h l = same h l
+append_determined κs a r q s t h l = same h l
 
-step-determined :
+step_determined :
     (κs : _) (a : _) (r q : _) (s t : _) → step.Post κs a r s → step.Post κs a q t →
     (r ≡ q) × (s.1.0.now ≡ t.1.0.now) × (s.1.1.0.now ≡ t.1.1.0.now) × (s.1.1.1.0.now ≡ t.1.1.1.0.now)
-step-determined κs a r q s t h l = same h l
+step_determined κs a r q s t h l = same h l
 
-run-determined :
+run_determined :
     (κs : _) (a : _) (r q : _) (s t : _) → run.Post κs a r s → run.Post κs a q t →
     (r ≡ q) × (s.1.0.now ≡ t.1.0.now) × (s.1.1.0.now ≡ t.1.1.0.now) × (s.1.1.1.0.now ≡ t.1.1.1.0.now)
-run-determined κs a r q s t h l = same h l
+run_determined κs a r q s t h l = same h l
 
 publish_determined : Determines publish.Post
 publish_determined κs a r q s t h l = made_same h l
@@ -74,35 +74,35 @@ flush_determined κs a r q s t h l = made_same h l
 take_determined : Determines take.Post
 take_determined κs a r q s t h l = made_same h l
 
-extend-by-determined :
+extend_by_determined :
     (κs : _) (a : _) (r q : _) (s t : _) → extend_by.Post κs a r s → extend_by.Post κs a q t →
     (r ≡ q) × (s.1.1.1.1.1.0.now ≡ t.1.1.1.1.1.0.now) × (s.1.1.1.1.1.1.0.now ≡ t.1.1.1.1.1.1.0.now) × (s.1.1.1.1.1.1.1.0.now ≡ t.1.1.1.1.1.1.1.0.now)
-extend-by-determined κs a r q s t h l = same h l
+extend_by_determined κs a r q s t h l = same h l
 
-extend-on-determined :
+extend_on_determined :
     (κs : _) (a : _) (r q : _) (s t : _) → extend_on.Post κs a r s → extend_on.Post κs a q t →
     (r ≡ q) × (s.1.1.1.1.0.now ≡ t.1.1.1.1.0.now) × (s.1.1.1.1.1.0.now ≡ t.1.1.1.1.1.0.now) × (s.1.1.1.1.1.1.0.now ≡ t.1.1.1.1.1.1.0.now)
-extend-on-determined κs a r q s t h l = same h l
+extend_on_determined κs a r q s t h l = same h l
 
-append-by-determined :
+append_by_determined :
     (κs : _) (a : _) (r q : _) (s t : _) → append_by.Post κs a r s → append_by.Post κs a q t →
     (r ≡ q) × (s.1.1.1.1.1.1.1.0.now ≡ t.1.1.1.1.1.1.1.0.now) × (s.1.1.1.1.1.1.1.1.0.now ≡ t.1.1.1.1.1.1.1.1.0.now) × (s.1.1.1.1.1.1.1.1.1.0.now ≡ t.1.1.1.1.1.1.1.1.1.0.now)
-append-by-determined κs a r q s t h l = same h l
+append_by_determined κs a r q s t h l = same h l
 
-append-on-determined :
+append_on_determined :
     (κs : _) (a : _) (r q : _) (s t : _) → append_on.Post κs a r s → append_on.Post κs a q t →
     (r ≡ q) × (s.1.1.1.1.1.1.0.now ≡ t.1.1.1.1.1.1.0.now) × (s.1.1.1.1.1.1.1.0.now ≡ t.1.1.1.1.1.1.1.0.now) × (s.1.1.1.1.1.1.1.1.0.now ≡ t.1.1.1.1.1.1.1.1.0.now)
-append-on-determined κs a r q s t h l = same h l
+append_on_determined κs a r q s t h l = same h l
 
-advance-by-determined :
+advance_by_determined :
     (κs : _) (a : _) (r q : _) (s t : _) → advance_by.Post κs a r s → advance_by.Post κs a q t →
     (r ≡ q) × (s.1.1.1.1.0.now ≡ t.1.1.1.1.0.now) × (s.1.1.1.1.1.0.now ≡ t.1.1.1.1.1.0.now) × (s.1.1.1.1.1.1.0.now ≡ t.1.1.1.1.1.1.0.now)
-advance-by-determined κs a r q s t h l = same h l
+advance_by_determined κs a r q s t h l = same h l
 
-advance-determined :
+advance_determined :
     (κs : _) (a : _) (r q : _) (s t : _) → advance.Post κs a r s → advance.Post κs a q t →
     (r ≡ q) × (s.1.1.1.0.now ≡ t.1.1.1.0.now) × (s.1.1.1.1.0.now ≡ t.1.1.1.1.0.now) × (s.1.1.1.1.1.0.now ≡ t.1.1.1.1.1.0.now)
-advance-determined κs a r q s t h l = same h l
+advance_determined κs a r q s t h l = same h l
 
 open_on_determined : Determines open_on.Post
 open_on_determined κs a r q s t h l = h ∙ sym l

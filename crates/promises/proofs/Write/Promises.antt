@@ -3,7 +3,7 @@ use Prim.Native.Nat.{ℕ}
 use mathlib.Core.Path.{◌≡◌, refl}
 use mathlib.Core.Bool.{Bool}
 use mathlib.Core.List.{List, [], ◌∷◌}
-use Rattle.promises.proofs.Contracts.{typed, Words, ref, Refs, refs, lends, κ₃, κ₄, Leaves, Keeps, Keeps1, Keeps2}
+use Rattle.promises.proofs.Contracts.{typed, Words, ref, Refs, lends, MutRefs, mut_refs, mut_lends, κ₃, κ₄, Leaves, Keeps, Keeps1, Keeps2}
 use Rattle.table.specs.declared.Search.{Search}
 use Rattle.table.specs.Order.{op}
 use Rattle.read.specs.declared.Slot.{Slot}
@@ -63,24 +63,24 @@ abbrev pub AdvancePromise : Part → Type 0
 AdvancePromise f =
     (c : Control) (s : Slot) (e : ℕ) (l r g : Words) →
     let o = f c s e l.list r.list g.list in
-    Leaves (typed κ₃ proofs.steps.advance.Kinds.ps) (proofs.steps.advance.Reads.Post κ₃) (c, (s, (e, lends l r g))) o.made
-    (c, (s, (e, refs o.left o.right o.log)))
+    Leaves (typed κ₃ proofs.steps.advance.Kinds.ps) (proofs.steps.advance.Reads.Post κ₃) (c, (s, (e, mut_lends l r g))) o.made
+    (c, (s, (e, mut_refs o.left o.right o.log)))
 
 abbrev pub ExtendOnPromise : (List ℕ → Part) → Type 0
 ExtendOnPromise f =
     (ws : Words) (c : Control) (s : Slot) (e : ℕ) (l r g : Words) →
     let o = f ws.list c s e l.list r.list g.list in
     Leaves (typed κ₄ proofs.begins.extend_on.Kinds.ps) (proofs.begins.extend_on.Reads.Post κ₄)
-    (ref ws.list, (c, (s, (e, lends l r g)))) o.made
-    (ref ws.list, (c, (s, (e, refs o.left o.right o.log))))
+    (ref ws.list, (c, (s, (e, mut_lends l r g)))) o.made
+    (ref ws.list, (c, (s, (e, mut_refs o.left o.right o.log))))
 
 abbrev pub AppendOnPromise : (ℕ → ℕ → ℕ → Part) → Type 0
 AppendOnPromise f =
     (kind key amount : ℕ) (c : Control) (s : Slot) (e : ℕ) (l r g : Words) →
     let o = f kind key amount c s e l.list r.list g.list in
     Leaves (typed κ₃ proofs.begins.append_on.Kinds.ps) (proofs.begins.append_on.Reads.Post κ₃)
-    (kind, (key, (amount, (c, (s, (e, lends l r g)))))) o.made
-    (kind, (key, (amount, (c, (s, (e, refs o.left o.right o.log))))))
+    (kind, (key, (amount, (c, (s, (e, mut_lends l r g)))))) o.made
+    (kind, (key, (amount, (c, (s, (e, mut_refs o.left o.right o.log))))))
 
 -- the same by how keys are searched
 abbrev pub AdvanceByPromise : (Search → Part) → Type 0
@@ -88,24 +88,24 @@ AdvanceByPromise f =
     (how : Search) (c : Control) (s : Slot) (e : ℕ) (l r g : Words) →
     let o = f how c s e l.list r.list g.list in
     Leaves (typed κ₃ proofs.steps.advance_by.Kinds.ps) (proofs.steps.advance_by.Reads.Post κ₃)
-    (how, (c, (s, (e, lends l r g)))) o.made
-    (how, (c, (s, (e, refs o.left o.right o.log))))
+    (how, (c, (s, (e, mut_lends l r g)))) o.made
+    (how, (c, (s, (e, mut_refs o.left o.right o.log))))
 
 abbrev pub ExtendByPromise : (Search → List ℕ → Part) → Type 0
 ExtendByPromise f =
     (how : Search) (ws : Words) (c : Control) (s : Slot) (e : ℕ) (l r g : Words) →
     let o = f how ws.list c s e l.list r.list g.list in
     Leaves (typed κ₄ proofs.begins.extend_by.Kinds.ps) (proofs.begins.extend_by.Reads.Post κ₄)
-    (how, (ref ws.list, (c, (s, (e, lends l r g))))) o.made
-    (how, (ref ws.list, (c, (s, (e, refs o.left o.right o.log)))))
+    (how, (ref ws.list, (c, (s, (e, mut_lends l r g))))) o.made
+    (how, (ref ws.list, (c, (s, (e, mut_refs o.left o.right o.log)))))
 
 abbrev pub AppendByPromise : (Search → ℕ → ℕ → ℕ → Part) → Type 0
 AppendByPromise f =
     (how : Search) (kind key amount : ℕ) (c : Control) (s : Slot) (e : ℕ) (l r g : Words) →
     let o = f how kind key amount c s e l.list r.list g.list in
     Leaves (typed κ₃ proofs.begins.append_by.Kinds.ps) (proofs.begins.append_by.Reads.Post κ₃)
-    (how, (kind, (key, (amount, (c, (s, (e, lends l r g))))))) o.made
-    (how, (kind, (key, (amount, (c, (s, (e, refs o.left o.right o.log)))))))
+    (how, (kind, (key, (amount, (c, (s, (e, mut_lends l r g))))))) o.made
+    (how, (kind, (key, (amount, (c, (s, (e, mut_refs o.left o.right o.log)))))))
 
 -- ---- on the whole machine
 
@@ -117,21 +117,21 @@ abbrev pub ExtendPromise : (List ℕ → Whole) → Type 0
 ExtendPromise f =
     (ws : Words) (st : State) (l r g : Words) →
     let o = f ws.list st l.list r.list g.list in
-    Leaves (typed κ₄ whole.extend.Kinds.ps) (whole.extend.Reads.Post κ₄) (st, (ref ws.list, lends l r g)) o.made
-    (st, (ref ws.list, refs o.left o.right o.log))
+    Leaves (typed κ₄ whole.extend.Kinds.ps) (whole.extend.Reads.Post κ₄) (st, (ref ws.list, mut_lends l r g)) o.made
+    (st, (ref ws.list, mut_refs o.left o.right o.log))
 
 abbrev pub AppendPromise : (ℕ → ℕ → ℕ → Whole) → Type 0
 AppendPromise f =
     (kind key amount : ℕ) (st : State) (l r g : Words) →
     let o = f kind key amount st l.list r.list g.list in
-    Leaves (typed κ₃ whole.append.Kinds.ps) (whole.append.Reads.Post κ₃) (st, (kind, (key, (amount, lends l r g)))) o.made
-    (st, (kind, (key, (amount, refs o.left o.right o.log))))
+    Leaves (typed κ₃ whole.append.Kinds.ps) (whole.append.Reads.Post κ₃) (st, (kind, (key, (amount, mut_lends l r g)))) o.made
+    (st, (kind, (key, (amount, mut_refs o.left o.right o.log))))
 
-abbrev Changes : (State × Refs → Bool) → (State × Refs → Reply → State × Refs → Type 0) → Whole → Type 0
+abbrev Changes : (State × MutRefs → Bool) → (State × MutRefs → Reply → State × MutRefs → Type 0) → Whole → Type 0
 Changes has post f =
     (st : State) (l r g : Words) →
     let o = f st l.list r.list g.list in
-    Leaves has post (st, lends l r g) o.made (st, refs o.left o.right o.log)
+    Leaves has post (st, mut_lends l r g) o.made (st, mut_refs o.left o.right o.log)
 
 abbrev pub StepPromise : Whole → Type 0
 StepPromise = Changes (typed κ₃ whole.step.Kinds.ps) (whole.step.Reads.Post κ₃)
@@ -167,7 +167,7 @@ begin_leaves : (o : Opening) (st : State) (l r g : List ℕ) → lent (begin o s
 unfolding call_on call_rule
 begin_leaves o st l r g =
     let at : Verdict → Lent Reply = λ v. elim v [ Admitted ↦ call_on (Open o) st l r g | Refused a ↦ lent (refusal a st) l r g ] in
-    let by : (v : Verdict) → lent (at v).made l r g ≡ at v = λ v. elim v [ Admitted ↦ refl | Refused a ↦ refl ] in
+    let by : (v : Verdict) → lent (at v).made l r g ≡ at v = λ v. elim v as (λ w. lent (at w).made l r g ≡ at w) [ Admitted ↦ refl | Refused a ↦ refl ] in
     by (judged st l r g)
 
 pub kept :

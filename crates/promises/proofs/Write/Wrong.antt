@@ -188,10 +188,10 @@ step_verdict_admits_wrong : StepVerdictPromise (λ k c. Admitted) → ⊥
 unfolding rules
 step_verdict_admits_wrong h = apart verdict refl (h 12 idle refl)
 
-stepVerdict-notNow-wrong :
+step_verdict_not_now_wrong :
     StepVerdictPromise (λ k c. elim (smallest (step_signs k c)) [ Admitted ↦ Admitted | Refused a ↦ Refused answer.NotNow ]) → ⊥
 unfolding rules
-stepVerdict-notNow-wrong h = apart verdict refl (h 12 (fitting Gone TakeFirst false false 0 0) refl)
+step_verdict_not_now_wrong h = apart verdict refl (h 12 (fitting Gone TakeFirst false false 0 0) refl)
 
 -- ---- advance
 

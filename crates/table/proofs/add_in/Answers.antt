@@ -5,8 +5,8 @@ use mathlib.Core.Path.{◌≡◌, sym, ap, subst, ◌∙◌}
 use mathlib.Core.Bool.{true, false}
 use Rattle.table.specs.Copy.{entries, has_key, find_by, inserted}
 use Rattle.table.proofs.Found.{has_used}
-use Rattle.table.proofs.Cases.{added-there, added_absent, placed_full, placed_room}
-use Rattle.table.proofs.Parts.{inserted-part}
+use Rattle.table.proofs.Cases.{added_there, added_absent, placed_full, placed_room}
+use Rattle.table.proofs.Parts.{inserted_part}
 use Rattle.table.proofs.add_in.Goals as goal
 use Rattle.table.proofs.add_in.Goals.{Else-has_key, Then-has_key}
 
@@ -27,7 +27,7 @@ returns-then-has_key c =
     let a = c.args in
     let i = c.find-i.ensures.0 in
     rw (c.grown.ensures, i)
-    (sym (added-there a.how a.key a.amount a.w.now (subst (λ (k : ℕ). has_key a.key a.w.now k ≡ true) i (sym c.has_key.ensures ∙ c.if-has_key.true))))
+    (sym (added_there a.how a.key a.amount a.w.now (subst (λ (k : ℕ). has_key a.key a.w.now k ≡ true) i (sym c.has_key.ensures ∙ c.if-has_key.true))))
 
 pub returns-then-w-ge-MOST : goal.returns-then-w-ge-MOST
 returns-then-w-ge-MOST c =
@@ -39,7 +39,7 @@ pub returns : goal.returns
 returns c =
     let a = c.args in
     rw c.open_gap.ensures
-    (inserted-part c.place-j.result a.key a.amount a.w.now
+    (inserted_part c.place-j.result a.key a.amount a.w.now
     ∙ ap (λ (k : ℕ). inserted k a.key a.amount a.w.now) c.place-j.ensures.0
     ∙ sym (added_absent a.how a.key a.amount a.w.now (absent (goal.at.returns c).Else-has_key) ∙ placed_room a.how a.key a.amount a.w.now c.if-w-ge-MOST.false))
 

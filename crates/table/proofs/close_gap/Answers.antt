@@ -2,7 +2,7 @@
 use mathlib.Core.Path.{sym, ◌∙◌}
 use native.Mathlib.Omega.{arith}
 use Rattle.table.proofs.Cases.{close_room, close_short}
-use Rattle.table.proofs.Parts.{closed-part}
+use Rattle.table.proofs.Parts.{closed_part}
 use Rattle.table.proofs.close_gap.Goals as goal
 
 pub returns-then-n-g : goal.returns-then-n-g
@@ -15,4 +15,4 @@ pub returns : goal.returns
 returns c =
     let a = c.args in
     rw (c.zero.ensures, c.move_down.ensures)
-    (closed-part a.g a.m a.part.now (omega arith) ∙ sym (close_room a.g a.m a.part.now (omega arith)))
+    (closed_part a.g a.m a.part.now (omega arith) ∙ sym (close_room a.g a.m a.part.now (omega arith)))

@@ -6,7 +6,7 @@ use mathlib.Core.Bool.{true, false}
 use Rattle.table.specs.Copy.{entries, has_key, removed}
 use Rattle.table.proofs.Found.{has_used}
 use Rattle.table.proofs.Cases.{dropped_there, dropped_absent}
-use Rattle.table.proofs.Parts.{removed-part}
+use Rattle.table.proofs.Parts.{removed_part}
 use Rattle.table.proofs.drop_in.Goals as goal
 use Rattle.table.proofs.drop_in.Goals.{Then-has_key}
 
@@ -21,7 +21,7 @@ returns-then-has_key c =
     let a = c.args in
     let i = c.find-i in
     rw c.close_gap.ensures
-    (removed-part i.result a.w.now c.requires (used (goal.at.returns-then-has_key c).Then-has_key)
+    (removed_part i.result a.w.now c.requires (used (goal.at.returns-then-has_key c).Then-has_key)
     ∙ ap (λ (k : ℕ). removed k a.w.now) i.ensures.0
     ∙ sym (dropped_there a.how a.key a.w.now (subst (λ (k : ℕ). has_key a.key a.w.now k ≡ true) i.ensures.0 (sym c.has_key.ensures ∙ c.if-has_key.true))))
 

@@ -7,7 +7,7 @@ use borrow.Author.Tests.{eqb-true}
 use lib.ListN.{length}
 use lib.Dec.{eqb}
 use Rattle.table.specs.Many.{is_view}
-use Rattle.table.proofs.Many.{all_no_view, all-no-room, all-broken, all_told, view_length, view_holds, view_ready}
+use Rattle.table.proofs.Many.{all_no_view, all_no_room, all_broken, all_told, view_length, view_holds, view_ready}
 use Rattle.table.proofs.look_up_all.Goals as goal
 use Rattle.table.proofs.look_up_all.Goals.{Else-not-is_twice, Else-not-is_view}
 
@@ -21,7 +21,7 @@ pub returns-then-not-is_view : goal.returns-then-not-is_view
 returns-then-not-is_view c = sym (all_no_view _ _ _ (sym c.is_view.ensures ∙ c.if-not-is_view.true))
 
 pub returns-then-not-is_twice : goal.returns-then-not-is_twice
-returns-then-not-is_twice c = sym (all-no-room _ _ _ (view (goal.at.returns-then-not-is_twice c).Else-not-is_view) (sym c.is_twice.ensures ∙ c.if-not-is_twice.true))
+returns-then-not-is_twice c = sym (all_no_room _ _ _ (view (goal.at.returns-then-not-is_twice c).Else-not-is_view) (sym c.is_twice.ensures ∙ c.if-not-is_twice.true))
 
 pub bounds-v-0 : goal.bounds-v-0
 bounds-v-0 c =
@@ -29,7 +29,7 @@ bounds-v-0 c =
     omega (arith, view_length a.v.now (view (goal.at.bounds-v-0 c).Else-not-is_view))
 
 pub returns-then-v-gt-MOST : goal.returns-then-v-gt-MOST
-returns-then-v-gt-MOST c = sym (all-broken _ _ _ (view (goal.at.returns-then-v-gt-MOST c).Else-not-is_view) (room (goal.at.returns-then-v-gt-MOST c).Else-not-is_twice) c.if-v-gt-MOST.true)
+returns-then-v-gt-MOST c = sym (all_broken _ _ _ (view (goal.at.returns-then-v-gt-MOST c).Else-not-is_view) (room (goal.at.returns-then-v-gt-MOST c).Else-not-is_twice) c.if-v-gt-MOST.true)
 
 pub way-requires : goal.way-requires
 way-requires c = view_holds _ (view (goal.at.way-requires c).Else-not-is_view) c.if-v-gt-MOST.false

@@ -5,7 +5,7 @@ use mathlib.Core.Bool.{true, false}
 use native.Mathlib.Omega.{arith}
 use Rattle.table.specs.Copy.{entries, has_key, fits, Fit, Holds}
 use Rattle.table.proofs.Found.{fit_holds, has_used}
-use Rattle.table.proofs.Cases.{fits_fit, look_unfit, look-there, look_absent}
+use Rattle.table.proofs.Cases.{fits_fit, look_unfit, look_there, look_absent}
 use Rattle.table.proofs.look_up_by.Goals as goal
 use Rattle.table.proofs.look_up_by.Goals.{Else-not-is_fit, Then-has_key}
 
@@ -34,7 +34,7 @@ returns-then-has_key c =
     let i = c.find-i in
     let e : 2 * i.result + 2 + 2 - (2 * i.result + 2) ≡ 2 = omega arith in
     rw (e, i.ensures.0)
-    (sym (look-there a.how a.key a.w.now (fits_here (goal.at.returns-then-has_key c).Else-not-is_fit) (subst (λ (k : ℕ). has_key a.key a.w.now k ≡ true) i.ensures.0 (sym c.has_key.ensures ∙ c.if-has_key.true))))
+    (sym (look_there a.how a.key a.w.now (fits_here (goal.at.returns-then-has_key c).Else-not-is_fit) (subst (λ (k : ℕ). has_key a.key a.w.now k ≡ true) i.ensures.0 (sym c.has_key.ensures ∙ c.if-has_key.true))))
 
 pub returns : goal.returns
 returns c =

@@ -3,7 +3,7 @@ use mathlib.Core.Path.{◌≡◌}
 use native.Mathlib.Omega.{arith}
 use borrow.Author.Rules.{rules}
 use lib.ListN.{length-set}
-use Rattle.table.proofs.Moves.{over-down}
+use Rattle.table.proofs.Moves.{over_down}
 use Rattle.table.proofs.move_down.Goals as goal
 
 pub loop-j-preserved : goal.loop-j-preserved
@@ -11,7 +11,7 @@ loop-j-preserved c =
     let p = c.args.part.now in (
       search rules,
       simp length-set (search rules),
-      rw c.loop-j.invariant.2 (over-down c.loop-j.j c.args.g p (search rules)),
+      rw c.loop-j.invariant.2 (over_down c.loop-j.j c.args.g p (search rules)),
     )
 
 pub returns : goal.returns

@@ -3,7 +3,7 @@ use mathlib.Core.Path.{◌∙◌}
 use native.Mathlib.Omega.{arith}
 use borrow.Author.Rules.{rules}
 use Rattle.table.specs.Many.{filled}
-use Rattle.table.proofs.Many.{told_length, told-next, told-end}
+use Rattle.table.proofs.Many.{told_length, told_next, told_end}
 use Rattle.table.proofs.tell_all.Goals as goal
 
 pub loop-i-preserved : goal.loop-i-preserved
@@ -14,10 +14,10 @@ loop-i-preserved c =
     rw c.tell_one.ensures (
       search rules,
       told_length i a.keys.now w c.loop-i.out (omega arith) (omega arith) ∙ c.loop-i.invariant.1,
-      told-next i a.keys.now w c.loop-i.out (omega arith) (omega arith) c.loop-i.invariant.2,
+      told_next i a.keys.now w c.loop-i.out (omega arith) (omega arith) c.loop-i.invariant.2,
     )
 
 pub returns : goal.returns
 returns c =
     let a = c.args in
-    told-end c.loop-i.i a.keys.now (filled a.v.now) c.loop-i.out (omega arith) (omega arith) c.loop-i.invariant.2
+    told_end c.loop-i.i a.keys.now (filled a.v.now) c.loop-i.out (omega arith) (omega arith) c.loop-i.invariant.2

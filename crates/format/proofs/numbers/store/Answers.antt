@@ -3,7 +3,7 @@ use Prim.Native.Nat.{◌+◌, ◌<◌}
 use mathlib.Core.Path.{refl, sym, ◌∙◌}
 use native.Mathlib.Nat.{add-zero}
 use borrow.Author.Rules.{rules}
-use Rattle.format.proofs.Bytes.{store-next, store_none}
+use Rattle.format.proofs.Bytes.{store_next, store_none}
 use Rattle.format.proofs.numbers.store.Goals as goal
 
 pub loop-i-init : goal.loop-i-init
@@ -13,7 +13,7 @@ pub loop-i-preserved : goal.loop-i-preserved
 loop-i-preserved c =
     let at = c.loop-i in
     let h : at.i < 8 = search rules in
-    (search rules, search rules, search rules, sym (store-next 8 at.i at.v c.args.at at.out h) ∙ at.invariant.3)
+    (search rules, search rules, search rules, sym (store_next 8 at.i at.v c.args.at at.out h) ∙ at.invariant.3)
 
 pub returns : goal.returns
 returns c =

@@ -1,6 +1,6 @@
 -- By whether the pointer is null.
 use Rattle.std.proofs.Common.{sym, ◌∙◌}
-use Rattle.read.proofs.Cases.{loaded_null, loaded-side}
+use Rattle.read.proofs.Cases.{loaded_null, loaded_side}
 use Rattle.read.proofs.guards.loaded.Goals as goal
 
 pub returns-then-c : goal.returns-then-c
@@ -11,4 +11,4 @@ returns-then-c c =
 pub returns : goal.returns
 returns c =
     let a = c.args in
-    c.made_of-2.ensures ∙ rw (c.guarded.ensures, c.first_guard-j.ensures) (sym (loaded-side a.c a.d a.s c.if-c.false))
+    c.made_of-2.ensures ∙ rw (c.guarded.ensures, c.first_guard-j.ensures) (sym (loaded_side a.c a.d a.s c.if-c.false))

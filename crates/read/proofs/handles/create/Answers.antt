@@ -1,6 +1,6 @@
 -- By the verdict: where it admits, the slot that is first is there.
 use Rattle.std.proofs.Common.{sym, ◌∙◌}
-use Rattle.read.proofs.Cases.{create_refused, create-made, create_room}
+use Rattle.read.proofs.Cases.{create_refused, create_made, create_room}
 use Rattle.read.proofs.handles.create.Goals as goal
 
 pub behind-requires : goal.behind-requires
@@ -15,4 +15,4 @@ returns-in-Refused c =
 pub returns-in-Admitted : goal.returns-in-Admitted
 returns-in-Admitted c =
     let a = c.args in
-    rw (c.behind.ensures, c.new_slot-t.ensures) (sym (create-made a.c a.s (sym c.create_verdict-v.ensures ∙ c.in-Admitted.is)))
+    rw (c.behind.ensures, c.new_slot-t.ensures) (sym (create_made a.c a.s (sym c.create_verdict-v.ensures ∙ c.in-Admitted.is)))

@@ -3,7 +3,7 @@ use Rattle.std.proofs.Common.{◌+◌, ◌≤◌, [], ◌∷◌, refl, arith}
 use Rattle.table.specs.Order.{op}
 use Rattle.read.specs.Machine.{log_room}
 use Rattle.write.proofs.Cases.{roomy}
-use Rattle.write.proofs.Made.{appended-first, appended-later}
+use Rattle.write.proofs.Made.{appended_first, appended_later}
 use Rattle.write.proofs.begins.appended.Goals as goal
 use Rattle.write.proofs.begins.appended.Goals.{Else-c}
 
@@ -20,7 +20,7 @@ overflow_add-n c = omega (arith, room (goal.at.overflow_add-n c).Else-c)
 pub returns : goal.returns
 returns c =
     let a = c.args in
-    appended-later a.how (op a.kind a.key a.amount ∷ []) a.c a.s a.e a.left.now a.right.now a.log.now c.if-c.false refl c.with_log.ensures c.value-2.ensures c.enlog.ensures
+    appended_later a.how (op a.kind a.key a.amount ∷ []) a.c a.s a.e a.left.now a.right.now a.log.now c.if-c.false refl c.with_log.ensures c.value-2.ensures c.enlog.ensures
 
 pub returns-then-c : goal.returns-then-c
-returns-then-c c = search appended-first
+returns-then-c c = search appended_first

@@ -3,7 +3,7 @@ use Rattle.std.proofs.Common.{◌+◌, ◌≤◌, length, arith}
 use Rattle.read.specs.Machine.{log_room}
 use Rattle.write.specs.Call.{ops_in}
 use Rattle.write.proofs.Cases.{roomy}
-use Rattle.write.proofs.Made.{appended-first, appended-later}
+use Rattle.write.proofs.Made.{appended_first, appended_later}
 use Rattle.write.proofs.begins.extended.Goals as goal
 use Rattle.write.proofs.begins.extended.Goals.{Else-c}
 
@@ -21,7 +21,7 @@ pub operate_all-requires : goal.operate_all-requires
 operate_all-requires c = c.requires.0
 
 pub returns-then-c : goal.returns-then-c
-returns-then-c c = search appended-first
+returns-then-c c = search appended_first
 
 pub returns : goal.returns
-returns c = search appended-later
+returns c = search appended_later

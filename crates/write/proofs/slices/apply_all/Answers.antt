@@ -4,7 +4,7 @@ use Rattle.table.specs.Copy.{Out}
 use Rattle.table.specs.Order.{Op}
 use Rattle.write.specs.Call.{ops_in}
 use Rattle.write.specs.Begins.{operated_all_by}
-use Rattle.write.proofs.Ops.{lawful_more, operated-more, ops_end}
+use Rattle.write.proofs.Ops.{lawful_more, operated_more, ops_end}
 use Rattle.write.proofs.slices.apply_all.Goals as goal
 
 pub loop-i-init : goal.loop-i-init
@@ -17,7 +17,7 @@ loop-i-preserved c =
       omega arith,
       search rules,
       lawful_more c.loop-i.i ops (omega arith) c.loop-i.invariant.2,
-      c.loop-i.invariant.3 ∙ operated-more c.loop-i.i ops (omega arith) how c.loop-i.w
+      c.loop-i.invariant.3 ∙ operated_more c.loop-i.i ops (omega arith) how c.loop-i.w
           ∙ ap (operated_all_by how (ops_in (drop (c.loop-i.i + 3) ops))) (sym (ap (λ (o : Out). o.copy) c.apply_by.ensures)),
     )
 

@@ -3,7 +3,7 @@ use Rattle.std.proofs.Common.{◌+◌, List, drop, sym, refl, ap, ◌∙◌, ari
 use Rattle.table.specs.Order.{Op}
 use Rattle.write.specs.Call.{ops_in}
 use Rattle.write.specs.Begins.{logged_all}
-use Rattle.write.proofs.Ops.{lawful_more, length_more, logged-more, ops_end}
+use Rattle.write.proofs.Ops.{lawful_more, length_more, logged_more, ops_end}
 use Rattle.write.proofs.slices.enlog_all.Goals as goal
 
 pub loop-i-init : goal.loop-i-init
@@ -21,7 +21,7 @@ loop-i-preserved c =
       search rules,
       omega (arith, length_more i ops (omega arith), c.loop-i.invariant.2),
       lawful_more i ops (omega arith) c.loop-i.invariant.3,
-      c.loop-i.invariant.4 ∙ logged-more i ops (omega arith) c.loop-i.n c.loop-i.log
+      c.loop-i.invariant.4 ∙ logged_more i ops (omega arith) c.loop-i.n c.loop-i.log
           ∙ ap (logged_all (c.loop-i.n + 1) (ops_in (drop (i + 3) ops))) (sym c.enlog.ensures),
     )
 
