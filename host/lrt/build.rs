@@ -1,6 +1,6 @@
 //! Links the proved player's static library, where there is one.
 //!
-//! `LRT_LIB` names it, and an empty one says to go without; else it is looked for where `rt staticlib play` leaves it.
+//! `LRT_LIB` names it, and an empty one says to go without; else it is looked for where `host/run library` leaves it.
 //! With a library the cfg `proved` is set. Without one everything compiles the same, a line says what to run, and there
 //! is no player.
 
@@ -34,7 +34,7 @@ fn link() -> Result<(), String> {
     let path = library.display();
     let found = library
         .canonicalize()
-        .map_err(|_| format!("there is no {path}; to build it, run: rt staticlib play (LRT_LIB names another one)"))?;
+        .map_err(|_| format!("there is no {path}; to build it, run: host/run library (LRT_LIB names another one)"))?;
     let machine = env::var("CARGO_CFG_TARGET_ARCH").unwrap_or_default();
     if machine != "x86_64" {
         return Err(format!("the static library is for x86-64, and this is built for {machine}; run: host/run"));
