@@ -2,6 +2,7 @@
 // anew, and its transcript held against the one recorded. A line says that all are as recorded, or what the first difference is.
 // Then it plays the schedules of standard input, which are refused.
 #![tactic(auto)]
+
 ghost use Rattle.std.specs.Prelude.{◌≤◌, length};
 
 use play::Played;
@@ -94,14 +95,7 @@ fn say_entry(to: Stdout, name: &[u8], s: &[u8], at: usize) {
 }
 
 // What differs: bytes, and the entry that has byte `i`.
-fn say_difference(
-    to: Stdout,
-    history: u64,
-    played: Played,
-    i: usize,
-    out: &[u8],
-    recorded: &[u8],
-) {
+fn say_difference(to: Stdout, history: u64, played: Played, i: usize, out: &[u8], recorded: &[u8]) {
     let at = i - i % ENTRY;
     say(to, b"history ", history);
     say(to, b": answer ", played.answer);
@@ -186,18 +180,20 @@ fn replay_text(to: Stdout, space: &[u8; ROOM], n: usize) {
     replay(to, tell::text(to, space, n));
 }
 
-// Tells on standard error what failed, and the system's words for why, without its number.
+// An error's words, without the system's number behind them.
+fn words(text: &str) -> &str {
+    match text.split_once(" (os error ") {
+        Some((words, _)) => words,
+        None => text,
+    }
+}
+
+// Tells on standard error what failed, and why.
 fn fail(rt: HostRuntime, what: &[u8], why: io::Error) -> Result<(), AllocError> {
     let text = format!(in rt.alloc(); "{why}")?;
-    let words = match text.as_str().split_once(" (os error ") {
-        Some((words, _)) => words,
-        None => text.as_str(),
-    };
     let to = rt.stderr();
     let _ = to.write_all(what);
-    let _ = to.write_all(b": ");
-    let _ = to.write_all(words.as_bytes());
-    let _ = to.write_all(b"\n");
+    let _ = to.println(format_args!(": {}", words(text.as_str())));
     Ok(())
 }
 
