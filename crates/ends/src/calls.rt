@@ -186,7 +186,15 @@ fn lent(
     let a = tell::least(asked(k, w.left), left.len());
     let b = tell::least(asked(k, w.right), right.len());
     let c = tell::least(asked(k, w.log), log.len());
-    acted(to, k, line, st, &mut left[..a], &mut right[..b], &mut log[..c])
+    acted(
+        to,
+        k,
+        line,
+        st,
+        &mut left[..a],
+        &mut right[..b],
+        &mut log[..c],
+    )
 }
 
 // A machine over slices of the right lengths.

@@ -14,6 +14,7 @@
 // lengths LEFT RIGHT LOG.
 // Numbers are as in tell::number. Any other line is only written.
 #![tactic(auto)]
+
 mod calls;
 mod records;
 mod slices;
