@@ -8,7 +8,7 @@
 // other is 2p + 1, which is absent; p is 19, 44, .. 494, spread evenly, so that walks pass half of the pairs, or all. So 20 keys are there,
 // and their counts make 5130.
 //
-// A program has no exit status here: other words are told on standard error, and nothing is written.
+// Other words are told on standard error, and nothing is written. The exit status is 0 all the same.
 #![tactic(auto)]
 
 use read::{LOG_WORDS, State};
