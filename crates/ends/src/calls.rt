@@ -2,11 +2,12 @@
 use crate::slices::{OPS, SPACE};
 use crate::{records, slices};
 use read::{Reply, State};
+use std::io::Stdout;
 use table::Answer;
 use tell::{put, say, value, word};
 
 // The machine, and how many words of each slice are lent.
-#[derive(Drop)]
+#[derive(Clone, Copy)]
 pub struct World {
     state: State,
     left: usize,
@@ -60,14 +61,14 @@ fn part<'a>(
     }
 }
 
-fn say_part(p: &[u64]) {
-    say(b" -> ", p.len() as u64);
-    tell::say_words(b" words", &[], p);
+fn say_part(to: Stdout, p: &[u64]) {
+    say(to, b" -> ", p.len() as u64);
+    tell::say_words(to, b" words", &[], p);
 }
 
-fn say_apart(a: &[u64], b: &[u64]) {
+fn say_apart(to: Stdout, a: &[u64], b: &[u64]) {
     let d = tell::apart(a, b);
-    say(b" -> ", d.words);
+    say(to, b" -> ", d.words);
 }
 
 // The release in place, on the record of a slot.
@@ -83,6 +84,7 @@ fn left_by(st: State, i: usize, guard: usize) -> Reply {
 }
 
 fn on_state<'a>(
+    to: Stdout,
     k: usize,
     line: &[u8],
     st: State,
@@ -108,11 +110,11 @@ fn on_state<'a>(
         12 => machine::take(st, left, right, log),
         22 => left_by(st, i, j),
         25..=28 => {
-            say_part(part(k, x, j, key, st, left, right, log));
+            say_part(to, part(k, x, j, key, st, left, right, log));
             answered(Answer::Done, st)
         }
         29 => {
-            say_apart(left, right);
+            say_apart(to, left, right);
             answered(Answer::Done, st)
         }
         _ => answered(Answer::Done, records::set_up(k, line, st)),
@@ -131,6 +133,7 @@ fn extended(line: &[u8], st: State, left: &mut [u64], right: &mut [u64], log: &m
 }
 
 fn acted(
+    to: Stdout,
     k: usize,
     line: &[u8],
     st: State,
@@ -157,7 +160,7 @@ fn acted(
         30 => answered(slices::set_up(line, left), st),
         31 => answered(slices::set_up(line, right), st),
         32 => answered(slices::set_up(line, log), st),
-        _ => on_state(k, line, st, &left[..], &right[..], &log[..]),
+        _ => on_state(to, k, line, st, &left[..], &right[..], &log[..]),
     }
 }
 
@@ -171,6 +174,7 @@ fn asked(k: usize, n: usize) -> usize {
 
 // A line on as many words of each slice as are lent.
 fn lent(
+    to: Stdout,
     k: usize,
     line: &[u8],
     w: World,
@@ -182,7 +186,15 @@ fn lent(
     let a = tell::least(asked(k, w.left), left.len());
     let b = tell::least(asked(k, w.right), right.len());
     let c = tell::least(asked(k, w.log), log.len());
-    acted(k, line, st, &mut left[..a], &mut right[..b], &mut log[..c])
+    acted(
+        to,
+        k,
+        line,
+        st,
+        &mut left[..a],
+        &mut right[..b],
+        &mut log[..c],
+    )
 }
 
 // A machine over slices of the right lengths.
@@ -212,20 +224,21 @@ fn lengths(k: usize, line: &[u8], w: World) -> World {
     }
 }
 
-fn say_reply(st: State, r: Reply) {
+fn say_reply(to: Stdout, st: State, r: Reply) {
     let a = r.answer;
     let after = r.state;
-    say(b" -> ", table::number(a) as u64);
-    say(b" ", r.value);
-    records::say_state(st, after);
+    say(to, b" -> ", table::number(a) as u64);
+    say(to, b" ", r.value);
+    records::say_state(to, st, after);
 }
 
-fn say_slice(name: &[u8], a: &[u64; SPACE], b: &[u64; SPACE]) {
-    tell::say_words(name, a, b);
+fn say_slice(to: Stdout, name: &[u8], a: &[u64; SPACE], b: &[u64; SPACE]) {
+    tell::say_words(to, name, a, b);
 }
 
 // A line, and what it led to.
 pub(crate) fn told(
+    to: Stdout,
     line: &[u8],
     w: World,
     left: &mut [u64; SPACE],
@@ -237,16 +250,16 @@ pub(crate) fn told(
     let z = *log;
     let k = kind(line);
     let v = lengths(k, line, w);
-    put(line);
-    let r = lent(k, line, v, left, right, log);
+    put(to, line);
+    let r = lent(to, k, line, v, left, right, log);
     if k < CALLS {
         let st = w.state;
-        say_reply(st, r);
-        say_slice(b", left", &x, left);
-        say_slice(b", right", &y, right);
-        say_slice(b", log", &z, log);
+        say_reply(to, st, r);
+        say_slice(to, b", left", &x, left);
+        say_slice(to, b", right", &y, right);
+        say_slice(to, b", log", &z, log);
     }
-    put(b"\n");
+    put(to, b"\n");
     let after = r.state;
     let mut next = v;
     next.state = after;

@@ -4,7 +4,7 @@
 // of the rules is used for it.
 //
 // Calls: start, and those of a schedule's text, but for the batch: extend COUNT WORD.. lends it as so many words, up to 195, the ones behind
-// those given being of the pattern logged; on the left slice apply KIND KEY AMOUNT, add KEY AMOUNT, remove KEY, clear, close_gap GAP WORDS,
+// those given being of the pattern logged; on the left slice apply KIND KEY AMOUNT, add KEY AMOUNT, remove KEY, clear, close-gap GAP WORDS,
 // and fill, which adds every key of a full copy; leave SLOT GUARD, the release in place; find-all and find-each, which look up the words of
 // the right slice in the left one and write what they tell to the log: at once, the left one being a view, and each by itself.
 // Parts: view SLOT GUARD, pair SLOT GUARD KEY; of the left slice find KEY and used; apart, in how many words left and right differ.
@@ -14,16 +14,17 @@
 // lengths LEFT RIGHT LOG.
 // Numbers are as in tell::number. Any other line is only written.
 #![tactic(auto)]
+
 mod calls;
 mod records;
 mod slices;
 
-use libc::STDIN_FILENO;
 use slices::SPACE;
+use std::io::Stdout;
 use tell::ROOM;
 
 // All lines. Whatever the lengths, a start hands out a fresh state.
-fn each_line(s: &[u8]) {
+fn each_line(to: Stdout, s: &[u8]) {
     let mut left = [0u64; SPACE];
     let mut right = [0u64; SPACE];
     let mut log = [0u64; SPACE];
@@ -33,17 +34,17 @@ fn each_line(s: &[u8]) {
     let mut at = 0;
     while at < s.len() {
         let end = tell::until(s, at, b'\n');
-        w = calls::told(&s[at..end], w, &mut left, &mut right, &mut log);
+        w = calls::told(to, &s[at..end], w, &mut left, &mut right, &mut log);
         at = tell::behind(s, end);
     }
 }
 
-fn cases(space: &[u8; ROOM], n: usize) {
-    each_line(tell::text(space, n));
+fn cases(to: Stdout, space: &[u8; ROOM], n: usize) {
+    each_line(to, tell::text(to, space, n));
 }
 
-fn main() {
+fn main(rt: HostRuntime) {
     let mut space = [0u8; ROOM];
-    let n = tell::read_all(STDIN_FILENO, &mut space);
-    cases(&space, n);
+    let n = tell::read_all(rt.stdin(), &mut space);
+    cases(rt.stdout(), &space, n);
 }

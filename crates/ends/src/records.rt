@@ -1,6 +1,7 @@
 // The state's records as numbers and names: set up from a line, and told where they changed.
 use read::admission::row;
 use read::{Control, Due, GUARDS, Guard, Job, Link, Phase, SLOTS, Slot, State};
+use std::io::Stdout;
 use tell::{one_if, put, put_name, say, value, which, word};
 
 // The control part as numbers: the fields that have a name here, and then the phase and its position.
@@ -107,35 +108,35 @@ fn control_of(n: [u64; NUMBERS]) -> Control {
     }
 }
 
-fn say_field(j: usize, x: u64) {
-    put(b",");
-    put_name(&FIELD_NAMES, j);
-    say(b" ", x);
+fn say_field(to: Stdout, j: usize, x: u64) {
+    put(to, b",");
+    put_name(to, &FIELD_NAMES, j);
+    say(to, b" ", x);
 }
 
-fn say_fields(a: [u64; NUMBERS], b: [u64; NUMBERS]) {
+fn say_fields(to: Stdout, a: [u64; NUMBERS], b: [u64; NUMBERS]) {
     let mut j = 0;
     while j < FIELDS {
         if a[j] != b[j] {
-            say_field(j, b[j]);
+            say_field(to, j, b[j]);
         }
         j += 1;
     }
 }
 
-fn say_phase(row: u64, k: u64) {
-    put(b",");
-    put_name(&PHASE_NAMES, row as usize);
+fn say_phase(to: Stdout, row: u64, k: u64) {
+    put(to, b",");
+    put_name(to, &PHASE_NAMES, row as usize);
     if k != NOWHERE {
-        say(b" ", k);
+        say(to, b" ", k);
     }
 }
 
-fn say_control(a: [u64; NUMBERS], b: [u64; NUMBERS]) {
+fn say_control(to: Stdout, a: [u64; NUMBERS], b: [u64; NUMBERS]) {
     if a[PHASE] != b[PHASE] || a[POSITION] != b[POSITION] {
-        say_phase(b[PHASE], b[POSITION]);
+        say_phase(to, b[PHASE], b[POSITION]);
     }
-    say_fields(a, b);
+    say_fields(to, a, b);
 }
 
 // ---- a slot
@@ -265,51 +266,51 @@ fn same_slot(s: Slot, t: Slot) -> bool {
     same_guards(g, h)
 }
 
-fn say_guard(g: Guard) {
-    put(word(b"- L R", guard_number(g)));
+fn say_guard(to: Stdout, g: Guard) {
+    put(to, word(b"- L R", guard_number(g)));
 }
 
-fn say_guards(g: [Guard; GUARDS]) {
+fn say_guards(to: Stdout, g: [Guard; GUARDS]) {
     let mut j = 0;
     while j < GUARDS {
         let x = g[j];
-        say_guard(x);
+        say_guard(to, x);
         j += 1;
     }
 }
 
-fn say_link(k: Link) {
+fn say_link(to: Stdout, k: Link) {
     if !is_fresh(k) {
-        say(b" to ", link_number(k));
+        say(to, b" to ", link_number(k));
     }
 }
 
-fn say_slot(i: usize, s: Slot) {
+fn say_slot(to: Stdout, i: usize, s: Slot) {
     let d = s.due;
     let g = s.guards;
     let k = s.link;
-    say(b", slot ", i as u64);
-    put_name(&USE_NAMES, one_if(s.used) as usize);
-    say(b" ", s.epoch);
-    put_name(&DUE_NAMES, due_number(d));
-    put(b" ");
-    say_guards(g);
-    say_link(k);
+    say(to, b", slot ", i as u64);
+    put_name(to, &USE_NAMES, one_if(s.used) as usize);
+    say(to, b" ", s.epoch);
+    put_name(to, &DUE_NAMES, due_number(d));
+    put(to, b" ");
+    say_guards(to, g);
+    say_link(to, k);
 }
 
-fn say_change(i: usize, s: Slot, t: Slot, x: u64, y: u64) {
+fn say_change(to: Stdout, i: usize, s: Slot, t: Slot, x: u64, y: u64) {
     if !same_slot(s, t) {
-        say_slot(i, t);
+        say_slot(to, i, t);
     }
     if x != y {
-        say(b", snapshot ", i as u64);
-        say(b" ", y);
+        say(to, b", snapshot ", i as u64);
+        say(to, b" ", y);
     }
 }
 
 // ---- the state
 
-fn say_slots(st: State, after: State) {
+fn say_slots(to: Stdout, st: State, after: State) {
     let a = st.slots;
     let b = after.slots;
     let x = st.snapshots;
@@ -318,17 +319,17 @@ fn say_slots(st: State, after: State) {
     while i < SLOTS {
         let s = a[i];
         let t = b[i];
-        say_change(i, s, t, x[i], y[i]);
+        say_change(to, i, s, t, x[i], y[i]);
         i += 1;
     }
 }
 
 // What of the state is another after a call.
-pub(crate) fn say_state(st: State, after: State) {
+pub(crate) fn say_state(to: Stdout, st: State, after: State) {
     let c = st.control;
     let d = after.control;
-    say_control(numbers(c), numbers(d));
-    say_slots(st, after);
+    say_control(to, numbers(c), numbers(d));
+    say_slots(to, st, after);
 }
 
 pub(crate) fn with_slot(st: State, i: usize, s: Slot) -> State {

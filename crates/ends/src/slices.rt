@@ -52,7 +52,7 @@ fn pattern(k: usize, i: usize, x: u64) -> u64 {
 
 // The word that a line gives for a place, or that its pattern has there.
 fn painted(line: &[u8], i: usize, x: u64) -> u64 {
-    let given = word(line, std::num::wrapping_add_usize(i, 2));
+    let given = word(line, i.wrapping_add(2));
     if given.len() != 0 {
         return tell::number(given);
     }

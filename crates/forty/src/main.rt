@@ -8,10 +8,12 @@
 // other is 2p + 1, which is absent; p is 19, 44, .. 494, spread evenly, so that walks pass half of the pairs, or all. So 20 keys are there,
 // and their counts make 5130.
 //
-// A program has no exit status here: other words are told on standard error, and nothing is written.
+// Other words are told on standard error, and nothing is written. The exit status is 0 all the same.
 #![tactic(auto)]
-use libc::STDERR_FILENO;
+
 use read::{LOG_WORDS, State};
+use std::env::{Env, FillError};
+use std::io::{Stderr, Stdout};
 use table::{PAIRS, WORDS};
 use tell::{put, say};
 
@@ -150,29 +152,30 @@ fn sum(out: &[u64; OUT], from: usize) -> u64 {
     let mut n: u64 = 0;
     let mut i = from;
     while i < OUT {
-        n = std::num::wrapping_add_u64(n, out[i]);
+        n = n.wrapping_add(out[i]);
         i += 2;
     }
     n
 }
 
-fn write(out: &[u64; OUT]) {
-    say(b"", sum(out, 0));
+fn write(to: Stdout, out: &[u64; OUT]) {
+    say(to, b"", sum(out, 0));
     say(
+        to,
         b" of 40 keys are there, and their counts make ",
         sum(out, 1),
     );
-    put(b"\n");
+    put(to, b"\n");
 }
 
-fn compare(a: &[u64; OUT], b: &[u64; OUT]) {
+fn compare(to: Stdout, a: &[u64; OUT], b: &[u64; OUT]) {
     let d = tell::apart(a, b);
     if d.words == 0 {
-        put(b"one by one and at once: ");
-        write(b);
+        put(to, b"one by one and at once: ");
+        write(to, b);
     } else {
-        say(b"one by one and at once differ in words: ", d.words);
-        put(b"\n");
+        say(to, b"one by one and at once differ in words: ", d.words);
+        put(to, b"\n");
     }
 }
 
@@ -189,10 +192,18 @@ fn is_decimal(w: &[u8]) -> bool {
     true
 }
 
+// Whether there is a word `k`, the program's name being 0.
+fn has_word(rt: HostRuntime, k: usize) -> bool {
+    match rt.arg(k, &mut [0u8; 9]) {
+        Err(FillError::NotPresent) => false,
+        _ => true,
+    }
+}
+
 // How many rounds are asked for, up to 999,999,999; 0 where that is not said.
-fn asked_rounds() -> u64 {
+fn asked_rounds(rt: HostRuntime) -> u64 {
     let mut word = [0u8; 9];
-    let n = os::arg(2, &mut word);
+    let n = rt.arg(2, &mut word).unwrap_or(0);
     if is_decimal(&word[..n]) {
         return tell::number(&word[..n]);
     }
@@ -200,39 +211,47 @@ fn asked_rounds() -> u64 {
 }
 
 // Which way: 0 one by one, 1 at once, 2 where neither is said.
-fn asked_way() -> usize {
+fn asked_way(rt: HostRuntime) -> usize {
     let mut word = [0u8; 3];
-    let n = os::arg(1, &mut word);
+    let n = rt.arg(1, &mut word).unwrap_or(0);
     tell::which(b"one all", &word[..n])
 }
 
-fn refuse() {
-    io::write_all(
-        STDERR_FILENO,
+fn refuse(to: Stderr) {
+    let _ = to.write_all(
         b"forty: wanted: no words, or one ROUNDS, or all ROUNDS, from 1 to 999999999\n",
     );
 }
 
 // ---- the program
 
-fn both<'a>(st: State, left: &'a [u64], right: &'a [u64], log: &[u64]) {
+fn both<'a>(to: Stdout, st: State, left: &'a [u64], right: &'a [u64], log: &[u64]) {
     let k = keys();
     let mut a = [0u64; OUT];
     let mut b = [0u64; OUT];
     one_by_one(st, &k, &mut a, left, right, log);
     at_once(st, &k, &mut b, left, right, log);
-    compare(&a, &b);
+    compare(to, &a, &b);
 }
 
-fn counted<'a>(n: u64, one: bool, st: State, left: &'a [u64], right: &'a [u64], log: &[u64]) {
+fn counted<'a>(
+    to: Stdout,
+    n: u64,
+    one: bool,
+    st: State,
+    left: &'a [u64],
+    right: &'a [u64],
+    log: &[u64],
+) {
     let k = keys();
     let mut out = [0u64; OUT];
     rounds(n, one, st, &k, &mut out, left, right, log);
-    write(&out);
+    write(to, &out);
 }
 
 // No rounds stand for both ways.
 fn run(
+    to: Stdout,
     n: u64,
     one: bool,
     left: &mut [u64; WORDS],
@@ -241,29 +260,30 @@ fn run(
 ) {
     let st = ready(left, right, log);
     if n == 0 {
-        both(st, left, right, log);
+        both(to, st, left, right, log);
     } else {
-        counted(n, one, st, left, right, log);
+        counted(to, n, one, st, left, right, log);
     }
 }
 
-fn start(n: u64, one: bool) {
+fn start(to: Stdout, n: u64, one: bool) {
     let mut left = [0u64; WORDS];
     let mut right = [0u64; WORDS];
     let mut log = [0u64; LOG_WORDS];
-    run(n, one, &mut left, &mut right, &mut log);
+    run(to, n, one, &mut left, &mut right, &mut log);
 }
 
-fn main() {
-    if os::arg_count() <= 1 {
-        start(0, true);
+fn main(rt: HostRuntime) {
+    let to = rt.stdout();
+    if !has_word(rt, 1) {
+        start(to, 0, true);
         return;
     }
-    let n = asked_rounds();
-    let way = asked_way();
-    if os::arg_count() != 3 || n == 0 || 1 < way {
-        refuse();
+    let n = asked_rounds(rt);
+    let way = asked_way(rt);
+    if !has_word(rt, 2) || has_word(rt, 3) || n == 0 || 1 < way {
+        refuse(rt.stderr());
         return;
     }
-    start(n, way == 0);
+    start(to, n, way == 0);
 }

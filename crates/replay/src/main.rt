@@ -2,10 +2,14 @@
 // anew, and its transcript held against the one recorded. A line says that all are as recorded, or what the first difference is.
 // Then it plays the schedules of standard input, which are refused.
 #![tactic(auto)]
+
 ghost use Rattle.std.specs.Prelude.{◌≤◌, length};
 
-use libc::STDIN_FILENO;
 use play::Played;
+use std::alloc::AllocError;
+use std::env::Env;
+use std::io::Stdout;
+use std::{fs, io};
 use tell::{ROOM, put, say, value};
 
 const OUTPUT: usize = 32768;
@@ -40,7 +44,7 @@ fn number(s: &[u8]) -> u64 {
 // ---- the sample's parts
 
 // Where a schedule or a transcript stands in the sample.
-#[derive(Drop)]
+#[derive(Clone, Copy)]
 struct Part {
     start: usize,
     end: usize,
@@ -77,7 +81,7 @@ fn is_mark(out: &[u8], i: usize) -> bool {
 }
 
 // The answer and the value of the entry at `at`.
-fn say_entry(name: &[u8], s: &[u8], at: usize) {
+fn say_entry(to: Stdout, name: &[u8], s: &[u8], at: usize) {
     if s.len() < ENTRY {
         return;
     }
@@ -86,58 +90,64 @@ fn say_entry(name: &[u8], s: &[u8], at: usize) {
     }
     let behind = at + 1;
     let end = at + ENTRY;
-    say(name, number(&s[at..behind]));
-    say(b" ", number(&s[behind..end]));
+    say(to, name, number(&s[at..behind]));
+    say(to, b" ", number(&s[behind..end]));
 }
 
 // What differs: bytes, and the entry that has byte `i`.
-fn say_difference(history: u64, played: Played, i: usize, out: &[u8], recorded: &[u8]) {
+fn say_difference(to: Stdout, history: u64, played: Played, i: usize, out: &[u8], recorded: &[u8]) {
     let at = i - i % ENTRY;
-    say(b"history ", history);
-    say(b": answer ", played.answer);
-    say(b", bytes ", played.written as u64);
-    say(b", recorded ", recorded.len() as u64);
-    say(b"; entry ", (i / ENTRY) as u64 + 1);
-    say_entry(b": ", out, at);
-    say_entry(b", recorded ", recorded, at);
-    put(b"\n");
+    say(to, b"history ", history);
+    say(to, b": answer ", played.answer);
+    say(to, b", bytes ", played.written as u64);
+    say(to, b", recorded ", recorded.len() as u64);
+    say(to, b"; entry ", (i / ENTRY) as u64 + 1);
+    say_entry(to, b": ", out, at);
+    say_entry(to, b", recorded ", recorded, at);
+    put(to, b"\n");
 }
 
 // Whether all is as recorded, and the byte behind the transcript was not written; what is not is said.
-fn judge(history: u64, played: Played, out: &[u8], recorded: &[u8]) -> bool {
+fn judge(to: Stdout, history: u64, played: Played, out: &[u8], recorded: &[u8]) -> bool {
     let n = recorded.len();
     let i = tell::same(recorded, out);
     if played.answer == 0 && played.written == n && i == n && is_mark(out, n) {
         return true;
     }
-    say_difference(history, played, i, out, recorded);
+    say_difference(to, history, played, i, out, recorded);
     false
 }
 
-fn judge_array(history: u64, played: Played, out: &[u8; OUTPUT], recorded: &[u8]) -> bool {
-    judge(history, played, out, recorded)
+fn judge_array(
+    to: Stdout,
+    history: u64,
+    played: Played,
+    out: &[u8; OUTPUT],
+    recorded: &[u8],
+) -> bool {
+    judge(to, history, played, out, recorded)
 }
 
-fn replayed(history: u64, schedule: &[u8], recorded: &[u8]) -> bool {
+fn replayed(to: Stdout, history: u64, schedule: &[u8], recorded: &[u8]) -> bool {
     let mut out = [MARK; OUTPUT];
     let played = play::lrt_play(schedule, &mut out);
-    judge_array(history, played, &out, recorded)
+    judge_array(to, history, played, &out, recorded)
 }
 
 // ---- the sample
 
-fn conclude(histories: u64, entries: u64) {
-    say(b"", histories);
-    say(b" histories, ", entries);
-    put(b" entries: as recorded\n");
+fn conclude(to: Stdout, histories: u64, entries: u64) {
+    say(to, b"", histories);
+    say(to, b" histories, ", entries);
+    put(to, b" entries: as recorded\n");
 }
 
-fn cut_short(history: u64) {
-    say(b"history ", history);
-    put(b": cut short\n");
+fn cut_short(to: Stdout, history: u64) {
+    say(to, b"history ", history);
+    put(to, b": cut short\n");
 }
 
-fn replay(s: &[u8]) {
+fn replay(to: Stdout, s: &[u8]) {
     let mut at = 0;
     let mut histories: usize = 0;
     let mut entries: usize = 0;
@@ -146,42 +156,71 @@ fn replay(s: &[u8]) {
         let from = schedule.start;
         let middle = schedule.end;
         let transcript = part_at(s, middle);
-        let to = transcript.start;
+        let then = transcript.start;
         let end = transcript.end;
         histories += 1;
         if from <= at {
-            cut_short(histories as u64);
+            cut_short(to, histories as u64);
             return;
         }
-        if to <= middle {
-            cut_short(histories as u64);
+        if then <= middle {
+            cut_short(to, histories as u64);
             return;
         }
-        if !replayed(histories as u64, &s[from..middle], &s[to..end]) {
+        if !replayed(to, histories as u64, &s[from..middle], &s[then..end]) {
             return;
         }
-        entries += (end - to) / ENTRY;
+        entries += (end - then) / ENTRY;
         at = end;
     }
-    conclude(histories as u64, entries as u64);
+    conclude(to, histories as u64, entries as u64);
 }
 
-fn replay_text(space: &[u8; ROOM], n: usize) {
-    replay(tell::text(space, n));
+fn replay_text(to: Stdout, space: &[u8; ROOM], n: usize) {
+    replay(to, tell::text(to, space, n));
 }
 
-fn replay_argument(k: usize) {
-    let mut path = io::buffer();
-    let length = os::arg(k, &mut path);
-    let fd = os::open_read(&path[..length]);
-    if fd < 0 {
-        os::fail(&path[..length]);
-        return;
+// An error's words, without the system's number behind them.
+fn words(text: &str) -> &str {
+    match text.split_once(" (os error ") {
+        Some((words, _)) => words,
+        None => text,
     }
+}
+
+// Tells on standard error what failed, and why.
+fn fail(rt: HostRuntime, what: &[u8], why: io::Error) -> Result<(), AllocError> {
+    let text = format!(in rt.alloc(); "{why}")?;
+    let to = rt.stderr();
+    let _ = to.write_all(what);
+    let _ = to.println(format_args!(": {}", words(text.as_str())));
+    Ok(())
+}
+
+// A path is UTF-8.
+fn open(rt: HostRuntime, path: &[u8]) -> io::Result<fs::File> {
+    match str::from_utf8(path) {
+        Ok(text) => fs::open(&rt, text),
+        Err(_) => Err(io::Error::from(io::ErrorKind::InvalidFilename)),
+    }
+}
+
+fn replay_file(to: Stdout, file: fs::File) {
     let mut space = [0u8; ROOM];
-    let n = tell::read_all(fd, &mut space);
-    replay_text(&space, n);
-    libc::close(fd);
+    let n = tell::read_all(file, &mut space);
+    replay_text(to, &space, n);
+}
+
+fn replay_argument(rt: HostRuntime, k: usize) -> Result<(), AllocError> {
+    let mut path = [0u8; 4096];
+    let length = rt.arg(k, &mut path).unwrap_or(0);
+    match open(rt, &path[..length]) {
+        Ok(file) => {
+            replay_file(rt.stdout(), file);
+            Ok(())
+        }
+        Err(e) => fail(rt, &path[..length], e),
+    }
 }
 
 // ---- what refuses a schedule
@@ -201,53 +240,54 @@ fn changed(out: &[u8]) -> u64 {
 fn fill(s: &mut [u8], line: &[u8]) {
     let mut i = 0;
     while i < s.len() {
-        s[i] = (value(line, std::num::wrapping_add_usize(i, 3)) % 256) as u8;
+        s[i] = (value(line, i.wrapping_add(3)) % 256) as u8;
         i += 1;
     }
 }
 
 // Plays a line's schedule, and says what came back and how many bytes of the output were written.
-fn played(line: &[u8], s: &mut [u8], out: &mut [u8]) {
+fn played(to: Stdout, line: &[u8], s: &mut [u8], out: &mut [u8]) {
     let room = tell::least(value(line, 1) as usize, out.len());
     let n = tell::least(value(line, 2) as usize, s.len());
     fill(s, line);
     let r = play::lrt_play(&s[..n], &mut out[..room]);
-    put(line);
-    say(b" -> ", r.answer);
-    say(b" ", r.written as u64);
-    say(b", changed ", changed(&out[..]));
-    put(b"\n");
+    put(to, line);
+    say(to, b" -> ", r.answer);
+    say(to, b" ", r.written as u64);
+    say(to, b", changed ", changed(&out[..]));
+    put(to, b"\n");
 }
 
-fn refused(line: &[u8]) {
+fn refused(to: Stdout, line: &[u8]) {
     let mut s = [0u8; SHORT];
     let mut out = [MARK; SHORT];
-    played(line, &mut s, &mut out);
+    played(to, line, &mut s, &mut out);
 }
 
-fn each_line(s: &[u8]) {
+fn each_line(to: Stdout, s: &[u8]) {
     let mut at = 0;
     while at < s.len() {
         let end = tell::until(s, at, b'\n');
-        refused(&s[at..end]);
+        refused(to, &s[at..end]);
         at = tell::behind(s, end);
     }
 }
 
-fn lines(space: &[u8; ROOM], n: usize) {
-    each_line(tell::text(space, n));
+fn lines(to: Stdout, space: &[u8; ROOM], n: usize) {
+    each_line(to, tell::text(to, space, n));
 }
 
 // A line for each schedule: a name, the output's room, the schedule's length and its bytes, without the zeros behind them.
-fn refusals() {
+fn refusals(rt: HostRuntime) {
     let mut space = [0u8; ROOM];
-    let n = tell::read_all(STDIN_FILENO, &mut space);
-    lines(&space, n);
+    let n = tell::read_all(rt.stdin(), &mut space);
+    lines(rt.stdout(), &space, n);
 }
 
 // The first argument names the known ends, the second the sample.
-fn main() {
-    replay_argument(1);
-    replay_argument(2);
-    refusals();
+fn main(rt: HostRuntime) -> Result<(), AllocError> {
+    replay_argument(rt, 1)?;
+    replay_argument(rt, 2)?;
+    refusals(rt);
+    Ok(())
 }

@@ -1,8 +1,9 @@
 // What the test programs share: lines of text, their words and numbers, words of a copy, and what is printed.
 #![tactic(auto)]
+
 ghost use Rattle.std.specs.Prelude.{◌≡◌, ◌+◌, ◌≤◌, length};
 
-use libc::STDOUT_FILENO;
+use std::io::{Read, Stdout};
 
 // One byte more than a text may have, so that a longer one is seen.
 pub const ROOM: usize = 400001;
@@ -19,26 +20,35 @@ const PRIME: u64 = 1000003;
 
 // ---- what is printed
 
-pub fn put(text: &[u8]) {
-    io::write_all(STDOUT_FILENO, text);
+// Writes a text. What cannot be written is lost.
+pub fn put(to: Stdout, text: &[u8]) {
+    let _ = to.write_all(text);
 }
 
-pub fn say(text: &[u8], x: u64) {
-    put(text);
-    io::print_decimal(STDOUT_FILENO, x);
+pub fn say(to: Stdout, text: &[u8], x: u64) {
+    put(to, text);
+    let _ = to.print(x);
 }
 
 // ---- lines and words
 
-// Reads a whole text, as far as there is room: how many bytes it has.
-pub fn read_all(fd: i32, space: &mut [u8; ROOM]) -> usize {
-    io::read_full(fd, space)
+// Reads a whole text, as far as there is room: how many bytes it has. It ends where a read fails.
+pub fn read_all<R: Read + Drop>(mut from: R, space: &mut [u8; ROOM]) -> usize {
+    let mut done = 0;
+    while done < ROOM {
+        let n = from.read(&mut space[done..]).unwrap_or(0);
+        if n == 0 {
+            return done;
+        }
+        done += n;
+    }
+    done
 }
 
 // The text that was read; no bytes where there was no room for it.
-pub fn text(s: &[u8], n: usize) -> &[u8] {
+pub fn text(to: Stdout, s: &[u8], n: usize) -> &[u8] {
     if s.len() <= n {
-        put(b"the text is too long\n");
+        put(to, b"the text is too long\n");
         return &s[..0];
     }
     &s[0..n]
@@ -49,7 +59,12 @@ pub fn until(s: &[u8], at: usize, b: u8) -> usize
     requires { at ≤ length s.now }
     ensures { (at ≤ result) × (result ≤ length s.now) }
 {
-    bytes::scan::find(s, at, s.len(), b)
+    for i in at..s.len() {
+        if s[i] == b {
+            return i;
+        }
+    }
+    s.len()
 }
 
 // The place behind one that is not past the text's end.
@@ -77,9 +92,9 @@ pub fn word(s: &[u8], k: usize) -> &[u8] {
 }
 
 // Name `k` of a list, behind a blank.
-pub fn put_name(names: &[u8], k: usize) {
-    put(b" ");
-    put(word(names, k));
+pub fn put_name(to: Stdout, names: &[u8], k: usize) {
+    put(to, b" ");
+    put(to, word(names, k));
 }
 
 // How far `a` is the same as `b`.
@@ -141,15 +156,15 @@ fn more(n: u64, b: u8) -> u64 {
         b'R' => read::LOG_ROOM as u64,
         b'L' => read::LOG_WORDS as u64,
         b'T' => TOP,
-        _ => std::num::wrapping_add_u64(n % (TENTH + 1) * 10, digit(b)),
+        _ => (n % (TENTH + 1) * 10).wrapping_add(digit(b)),
     }
 }
 
 fn joined(sum: u64, n: u64, minus: bool) -> u64 {
     if minus {
-        return std::num::wrapping_sub_u64(sum, n);
+        return sum.wrapping_sub(n);
     }
-    std::num::wrapping_add_u64(sum, n)
+    sum.wrapping_add(n)
 }
 
 fn joins(b: u8) -> bool {
@@ -222,7 +237,7 @@ fn mix_word(h: u64, i: usize, x: u64, y: u64) -> u64 {
 }
 
 // The words of `b` that are not those of `a`: how many, and a number that they make.
-#[derive(Drop)]
+#[derive(Clone, Copy)]
 pub struct Differing {
     pub words: u64,
     pub digest: u64,
@@ -244,33 +259,33 @@ pub fn apart(a: &[u64], b: &[u64]) -> Differing {
     }
 }
 
-fn say_word(i: usize, x: u64) {
-    say(b" ", i as u64);
-    say(b":", x);
+fn say_word(to: Stdout, i: usize, x: u64) {
+    say(to, b" ", i as u64);
+    say(to, b":", x);
 }
 
 // The places and the words of `b` that are not those of `a`.
-fn list(a: &[u64], b: &[u64]) {
+fn list(to: Stdout, a: &[u64], b: &[u64]) {
     let mut i = 0;
     while i < b.len() {
         if at(a, i) != b[i] {
-            say_word(i, b[i]);
+            say_word(to, i, b[i]);
         }
         i += 1;
     }
 }
 
 // What became of words `a`, under a name; nothing where they are the same.
-pub fn say_words(name: &[u8], a: &[u64], b: &[u64]) {
+pub fn say_words(to: Stdout, name: &[u8], a: &[u64], b: &[u64]) {
     let d = apart(a, b);
     if d.words == 0 {
         return;
     }
-    put(name);
+    put(to, name);
     if d.words <= LISTED {
-        list(a, b);
+        list(to, a, b);
         return;
     }
-    say(b" ", d.words);
-    say(b" in all, digest ", d.digest);
+    say(to, b" ", d.words);
+    say(to, b" in all, digest ", d.digest);
 }
