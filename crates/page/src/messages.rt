@@ -22,16 +22,20 @@ fn say_number(rt: &HostRuntime, number: u64) -> io::Result<()> {
     unless_closed(rt.stderr().print(number))
 }
 
-// What went wrong with a file, in the system's words. An error is printed with the system's number behind them, which is left out.
+// An error's text with no number of the system's behind it.
+fn words(printed: &str) -> &str {
+    match printed.rsplit_once(" (os error ") {
+        Some((words, _)) => words,
+        None => printed,
+    }
+}
+
+// What went wrong with a file, in the system's words.
 pub(crate) fn fail(rt: &HostRuntime, name: &[u8], error: Error) -> io::Result<()> {
     let printed = format!(in rt.alloc(); "{error}")?;
-    let words = match printed.as_str().rsplit_once(" (os error ") {
-        Some((words, _)) => words,
-        None => printed.as_str(),
-    };
     begin(rt, name)?;
     say(rt, b": ")?;
-    say(rt, words.as_bytes())?;
+    say(rt, words(printed.as_str()).as_bytes())?;
     say(rt, b"\n")
 }
 
