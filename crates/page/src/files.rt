@@ -2,14 +2,15 @@
 use crate::SCHEDULE;
 use crate::messages::{fail, say, too_long};
 use std::env::{Env, FillError};
+use std::fs::File;
 use std::io::{Error, Read};
 use std::{fs, io};
 
 // The longest path has fewer bytes.
 const PATH: usize = 4096;
 
-// The system's numbers of what can be wrong with FILE before it is opened: it is not given, it is too long, and it is not the UTF-8 that
-// the library opens alone.
+// The system's numbers of what can be wrong with FILE before it is opened: it is not given, it is too long, and it is not UTF-8, which
+// alone the library opens.
 const NOT_GIVEN: i32 = 22;
 
 const TOO_LONG: i32 = 36;
@@ -69,15 +70,20 @@ fn read_all<R: Read>(from: &mut R, buf: &mut [u8]) -> io::Result<usize> {
     Ok(n)
 }
 
+// Opens the file at a path.
+fn open(rt: &HostRuntime, path: &[u8]) -> io::Result<File> {
+    match std::str::from_utf8(path) {
+        Ok(path) => fs::open(rt, path),
+        Err(_) => Err(Error::from_raw_os_error(NOT_TEXT)),
+    }
+}
+
 // Reads the file at a path, or standard input where that is "-".
 fn read_path(rt: &HostRuntime, path: &[u8], buf: &mut [u8]) -> io::Result<usize> {
     if path == b"-".as_slice() {
         return read_all(&mut rt.stdin(), buf);
     }
-    let Ok(path) = std::str::from_utf8(path) else {
-        return Err(Error::from_raw_os_error(NOT_TEXT));
-    };
-    let mut file = fs::open(rt, path)?;
+    let mut file = open(rt, path)?;
     read_all(&mut file, buf)
 }
 
