@@ -1,5 +1,6 @@
 // Plays the schedule that its arguments name, and writes what came of it.
 #![tactic(auto)]
+
 use page::{SCHEDULE, TRANSCRIPT};
 use std::io;
 use std::io::ErrorKind;
