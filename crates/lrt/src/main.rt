@@ -1,30 +1,45 @@
 // Plays the schedule that its arguments name, and writes what came of it.
 #![tactic(auto)]
+
 use page::{SCHEDULE, TRANSCRIPT};
+use std::io;
+use std::io::ErrorKind;
+use std::process::ExitCode;
+
+// The status of a program that the system stopped at a pipe that nobody reads any more: 128 and the signal's number.
+const CLOSED: u8 = 141;
 
 // Plays what was read, unless it fills the buffer.
-fn run(buf: &[u8], n: usize, out: &mut [u8; TRANSCRIPT]) {
+fn run(rt: &HostRuntime, buf: &[u8], n: usize, out: &mut [u8; TRANSCRIPT]) -> io::Result<()> {
     if n >= buf.len() {
-        return;
+        return Ok(());
     }
     let schedule = &buf[0..n];
     let played = play::lrt_play(schedule, out);
     if played.answer == 0 {
-        page::write(schedule, out, played.written);
+        page::write(rt, schedule, out, played.written)
     } else {
         let flaw = format::check(schedule);
-        page::refuse(played.answer, flaw.place);
+        page::refuse(rt, played.answer, flaw.place)
     }
 }
 
 // Arrays that come by reference are lent on with no proof by hand.
-fn read_and_run(buf: &mut [u8; SCHEDULE], out: &mut [u8; TRANSCRIPT]) {
-    let n = page::read(buf);
-    run(buf, n, out);
+fn read_and_run(
+    rt: &HostRuntime,
+    buf: &mut [u8; SCHEDULE],
+    out: &mut [u8; TRANSCRIPT],
+) -> io::Result<()> {
+    let n = page::read(rt, buf)?;
+    run(rt, buf, n, out)
 }
 
-fn main() {
+fn main(rt: HostRuntime) -> io::Result<ExitCode> {
     let mut buf = [0u8; SCHEDULE];
     let mut out = [0u8; TRANSCRIPT];
-    read_and_run(&mut buf, &mut out);
+    match read_and_run(&rt, &mut buf, &mut out) {
+        Ok(()) => Ok(ExitCode::SUCCESS),
+        Err(error) if error.kind() == ErrorKind::BrokenPipe => Ok(ExitCode::from(CLOSED)),
+        Err(error) => Err(error),
+    }
 }

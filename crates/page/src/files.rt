@@ -1,13 +1,21 @@
 // The arguments, and the file that they name.
 use crate::SCHEDULE;
 use crate::messages::{fail, say, too_long};
-use libc::STDIN_FILENO;
+use std::env::{Env, FillError};
+use std::fs::File;
+use std::io::{Error, Read};
+use std::{fs, io};
 
-#[derive(Drop)]
-struct Got {
-    whole: bool,
-    count: usize,
-}
+// The longest path has fewer bytes.
+const PATH: usize = 4096;
+
+// The system's numbers of what can be wrong with FILE before it is opened: it is not given, it is too long, and it is not UTF-8, which
+// alone the library opens.
+const NOT_GIVEN: i32 = 22;
+
+const TOO_LONG: i32 = 36;
+
+const NOT_TEXT: i32 = 84;
 
 // The first `n` bytes, or all where there are fewer.
 pub(crate) fn start(s: &[u8], n: usize) -> &[u8] {
@@ -18,95 +26,110 @@ pub(crate) fn start(s: &[u8], n: usize) -> &[u8] {
 }
 
 // Whether the first argument is this word of four letters.
-pub(crate) fn is_word(wanted: &[u8]) -> bool {
+pub(crate) fn is_word(rt: &HostRuntime, wanted: &[u8]) -> bool {
     let mut word = [0u8; 4];
-    let n = os::arg(1, &mut word);
-    check::same(start(&word, n), wanted)
+    match rt.arg(1, &mut word) {
+        Ok(n) => start(&word, n) == wanted,
+        Err(_) => false,
+    }
+}
+
+// Whether NAME is given.
+pub(crate) fn has_name(rt: &HostRuntime) -> bool {
+    let mut byte = [0u8; 1];
+    match rt.arg(3, &mut byte) {
+        Err(FillError::NotPresent) => false,
+        _ => true,
+    }
 }
 
 // What messages call the file, which is the last argument: how many bytes it has.
-pub(crate) fn put_name(space: &mut [u8]) -> usize {
+pub(crate) fn put_name(rt: &HostRuntime, space: &mut [u8]) -> usize {
     let mut i = 2;
-    if os::arg_count() > 3 {
+    if has_name(rt) {
         i = 3;
     }
-    os::arg(i, space)
+    rt.arg(i, space).unwrap_or(0)
 }
 
-// Reads to the end of the input, or until the buffer is full.
-fn read_all(fd: i32, buf: &mut [u8]) -> Got {
+// Room for what `put_name` puts.
+pub(crate) fn name_space() -> [u8; PATH] {
+    [0u8; PATH]
+}
+
+// Reads to the end of the input, or until the buffer is full, and answers how many bytes were read.
+fn read_all<R: Read>(from: &mut R, buf: &mut [u8]) -> io::Result<usize> {
     let mut n = 0;
     while n < buf.len() {
-        let rest = &mut buf[n..];
-        let got = libc::read(fd, rest);
-        if got < 0 {
-            return Got {
-                whole: false,
-                count: n,
-            };
-        }
-        let more = io::count(got, rest);
+        let more = from.read(&mut buf[n..])?;
         if more == 0 {
             break;
         }
         n += more;
     }
-    Got {
-        whole: true,
-        count: n,
+    Ok(n)
+}
+
+// Opens the file at a path.
+fn open(rt: &HostRuntime, path: &[u8]) -> io::Result<File> {
+    match std::str::from_utf8(path) {
+        Ok(path) => fs::open(rt, path),
+        Err(_) => Err(Error::from_raw_os_error(NOT_TEXT)),
     }
 }
 
-// Opens FILE. What is wrong with it is said, and answered with a negative number.
-fn open(name: &[u8]) -> i32 {
-    let mut path = io::buffer();
-    let n = os::arg(2, &mut path);
-    if os::errno() != 0 {
-        fail(b"FILE");
-        return -1;
+// Reads the file at a path, or standard input where that is "-".
+fn read_path(rt: &HostRuntime, path: &[u8], buf: &mut [u8]) -> io::Result<usize> {
+    if path == b"-".as_slice() {
+        return read_all(&mut rt.stdin(), buf);
     }
-    let path = start(&path, n);
-    if check::same(path, b"-") {
-        return STDIN_FILENO;
-    }
-    let fd = os::open_read(path);
-    if fd < 0 {
-        fail(name);
-    }
-    fd
+    let mut file = open(rt, path)?;
+    read_all(&mut file, buf)
 }
 
-fn read_from(fd: i32, buf: &mut [u8; SCHEDULE], name: &[u8]) -> usize {
-    let got = read_all(fd, buf);
-    if !got.whole {
-        fail(name);
-        return SCHEDULE;
+fn read_from(
+    rt: &HostRuntime,
+    path: &[u8],
+    buf: &mut [u8; SCHEDULE],
+    name: &[u8],
+) -> io::Result<usize> {
+    match read_path(rt, path, buf) {
+        Ok(n) => {
+            if n >= SCHEDULE {
+                too_long(rt, name)?;
+            }
+            Ok(n)
+        }
+        Err(error) => {
+            fail(rt, name, error)?;
+            Ok(SCHEDULE)
+        }
     }
-    if got.count >= SCHEDULE {
-        too_long(name);
-    }
-    got.count
 }
 
-fn read_named(buf: &mut [u8; SCHEDULE], name: &[u8]) -> usize {
-    let fd = open(name);
-    if fd < 0 {
-        return SCHEDULE;
-    }
-    let n = read_from(fd, buf, name);
-    libc::close(fd);
-    n
+// Reads FILE. What is wrong with it is said.
+fn read_named(rt: &HostRuntime, buf: &mut [u8; SCHEDULE], name: &[u8]) -> io::Result<usize> {
+    let mut path = [0u8; PATH];
+    let wrong = match rt.arg(2, &mut path) {
+        Ok(n) => {
+            return read_from(rt, start(&path, n), buf, name);
+        }
+        Err(FillError::NotPresent) => NOT_GIVEN,
+        Err(FillError::TooLong) => TOO_LONG,
+    };
+    fail(rt, b"FILE", Error::from_raw_os_error(wrong))?;
+    Ok(SCHEDULE)
 }
 
 // As the crate's `read`, which adds the status.
-pub(crate) fn read(buf: &mut [u8; SCHEDULE]) -> usize {
-    if !is_word(b"show") {
-        if !is_word(b"play") {
-            say(b"lrt: wanted: play FILE, or show FILE\n");
-            return SCHEDULE;
+pub(crate) fn read(rt: &HostRuntime, buf: &mut [u8; SCHEDULE]) -> io::Result<usize> {
+    if !is_word(rt, b"show") {
+        if !is_word(rt, b"play") {
+            say(rt, b"lrt: wanted: play FILE, or show FILE\n")?;
+            return Ok(SCHEDULE);
         }
     }
-    let mut name = io::buffer();
-    let n = put_name(&mut name);
-    read_named(buf, start(&name, n))
+    let mut name = name_space();
+    let n = put_name(rt, &mut name);
+    read_named(rt, buf, start(&name, n))
 }

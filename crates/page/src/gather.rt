@@ -1,10 +1,9 @@
 // Text that is gathered in a page from its start on. What does not fit is left out.
 ghost use Rattle.page.specs.Page.{OnPage};
 
-pub(crate) const SIZE: usize = 65536;
+use itoa::Buffer;
 
-// As many digits as the longest number of 64 bits has.
-const DIGITS: usize = 20;
+pub(crate) const SIZE: usize = 65536;
 
 pub(crate) fn put(page: &mut [u8; SIZE], at: usize, byte: u8) -> usize
     ensures { OnPage result }
@@ -57,8 +56,8 @@ pub(crate) fn number(page: &mut [u8; SIZE], at: usize, value: u64, column: usize
     requires { OnPage at }
     ensures { OnPage result }
 {
-    let mut digits = [0u8; DIGITS];
-    let k = io::decimal(value, &mut digits);
-    let n = blanks(page, at, minus(column, k));
-    text(page, n, &digits[..k])
+    let mut buffer = Buffer::new();
+    let digits = buffer.format(value).as_bytes();
+    let n = blanks(page, at, minus(column, digits.len()));
+    text(page, n, digits)
 }

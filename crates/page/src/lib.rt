@@ -3,19 +3,23 @@
 //   lrt play FILE [NAME]
 //   lrt show FILE [NAME]
 //
-// FILE is a packed schedule, or - for standard input. A program has no exit status here, so where NAME is given, which
+// FILE is a packed schedule, or - for standard input. The exit status does not tell what came of it: where NAME is given, which
 // is what messages then call the file, a digit goes to descriptor 3: 0 well, 1 the file is refused, 2 anything else.
 //
-// The public functions answer no more than how much was read: what else they do is seen outside alone.
+// The public functions answer no more than how much was read: what else they do is seen outside alone. Their errors are that
+// nobody reads what is written any more, and that there is no memory for a message.
 #![tactic(auto)]
+
 mod files;
 mod gather;
 mod messages;
 mod rows;
 mod show;
+mod status;
 
 use format::{ENTRY, HEAD, RECORD};
-use libc::STDOUT_FILENO;
+use std::io;
+use std::io::ErrorKind;
 
 // So many records a schedule may have.
 const RECORDS: usize = 100000;
@@ -31,45 +35,51 @@ const REFUSED: u8 = b'1';
 
 const FAILED: u8 = b'2';
 
-const STATUS_FILENO: i32 = 3;
-
-fn end(status: u8) {
-    if os::arg_count() > 3 {
-        io::write_all(STATUS_FILENO, &[status]);
+fn end(rt: &HostRuntime, digit: u8) -> io::Result<()> {
+    if files::has_name(rt) {
+        status::put(rt, digit)?;
     }
+    Ok(())
 }
 
 // Reads the file into the buffer: how many bytes it has, or as many as the buffer where there is nothing to be played, which has then
 // been said.
-pub fn read(buf: &mut [u8; SCHEDULE]) -> usize {
-    let n = files::read(buf);
+pub fn read(rt: &HostRuntime, buf: &mut [u8; SCHEDULE]) -> io::Result<usize> {
+    let n = files::read(rt, buf)?;
     if n >= SCHEDULE {
-        end(FAILED);
+        end(rt, FAILED)?;
     }
-    n
+    Ok(n)
 }
 
 // The end of a file that is refused, with a number, at a record.
-pub fn refuse(answer: u64, place: usize) {
-    let mut name = io::buffer();
-    let n = files::put_name(&mut name);
-    messages::refuse(files::start(&name, n), answer, place);
-    end(REFUSED);
+pub fn refuse(rt: &HostRuntime, answer: u64, place: usize) -> io::Result<()> {
+    let mut name = files::name_space();
+    let n = files::put_name(rt, &mut name);
+    messages::refuse(rt, files::start(&name, n), answer, place)?;
+    end(rt, REFUSED)
 }
 
-fn write_all(schedule: &[u8], transcript: &[u8]) -> bool {
-    if files::is_word(b"show") {
-        return show::all(STDOUT_FILENO, schedule, transcript);
+fn write_all(rt: &HostRuntime, schedule: &[u8], transcript: &[u8]) -> io::Result<()> {
+    if files::is_word(rt, b"show") {
+        return show::all(rt, schedule, transcript);
     }
-    io::write_all(STDOUT_FILENO, transcript)
+    rt.write_all(transcript)
 }
 
 // The end of a schedule that was played: writes what is wanted of it and of the bytes that were written.
-pub fn write(schedule: &[u8], out: &[u8; TRANSCRIPT], written: usize) {
-    if write_all(schedule, files::start(out, written)) {
-        end(WELL);
-    } else {
-        messages::fail(b"standard output");
-        end(FAILED);
+pub fn write(
+    rt: &HostRuntime,
+    schedule: &[u8],
+    out: &[u8; TRANSCRIPT],
+    written: usize,
+) -> io::Result<()> {
+    match write_all(rt, schedule, files::start(out, written)) {
+        Ok(()) => end(rt, WELL),
+        Err(error) if error.kind() == ErrorKind::BrokenPipe => Err(error),
+        Err(error) => {
+            messages::fail(rt, b"standard output", error)?;
+            end(rt, FAILED)
+        }
     }
 }

@@ -1,44 +1,71 @@
 // What is said on standard error.
 use crate::rows::row;
-use libc::STDERR_FILENO;
+use std::io;
+use std::io::{Error, ErrorKind};
 
 // The smallest number that refuses a file.
 const MARK: u64 = 21;
 
-pub(crate) fn say(text: &[u8]) {
-    io::write_all(STDERR_FILENO, text);
+// Whether something could be written is passed over, unless nobody reads it any more: then the program ends.
+pub(crate) fn unless_closed(written: io::Result<()>) -> io::Result<()> {
+    match written {
+        Err(error) if error.kind() == ErrorKind::BrokenPipe => Err(error),
+        _ => Ok(()),
+    }
 }
 
-// What went wrong with a file, by errno.
-pub(crate) fn fail(name: &[u8]) {
-    say(b"lrt: ");
-    os::fail(name);
+pub(crate) fn say(rt: &HostRuntime, text: &[u8]) -> io::Result<()> {
+    unless_closed(rt.stderr().write_all(text))
 }
 
-fn begin(name: &[u8]) {
-    say(b"lrt: ");
-    say(name);
+fn say_number(rt: &HostRuntime, number: u64) -> io::Result<()> {
+    unless_closed(rt.stderr().print(number))
+}
+
+// An error's text with no number of the system's behind it.
+fn words(printed: &str) -> &str {
+    match printed.rsplit_once(" (os error ") {
+        Some((words, _)) => words,
+        None => printed,
+    }
+}
+
+// What went wrong with a file, in the system's words.
+pub(crate) fn fail(rt: &HostRuntime, name: &[u8], error: Error) -> io::Result<()> {
+    let printed = format!(in rt.alloc(); "{error}")?;
+    begin(rt, name)?;
+    say(rt, b": ")?;
+    say(rt, words(printed.as_str()).as_bytes())?;
+    say(rt, b"\n")
+}
+
+fn begin(rt: &HostRuntime, name: &[u8]) -> io::Result<()> {
+    say(rt, b"lrt: ")?;
+    say(rt, name)
 }
 
 // What refuses a file, by its number from 21 on, and where. The output is never too short, since it has room for every record
 // that the schedule has.
-fn reason(answer: u64) {
+fn reason(rt: &HostRuntime, answer: u64) -> io::Result<()> {
     let rows =
         b", mark (a schedule begins with LRT and a version), before record |, version (only 1 is known), before record |, torn record (a record has 20 bytes), at record |, a call not 1 to 15, or a batch whose appends are not there, at record |, output too short, at record ";
-    say(row(rows, std::num::wrapping_sub_u64(answer, MARK)));
+    say(rt, row(rows, answer.wrapping_sub(MARK)))
 }
 
 // The line for a file that is refused. Records count from 1; a mark or a version is wrong before the first.
-pub(crate) fn refuse(name: &[u8], answer: u64, place: usize) {
-    begin(name);
-    say(b": refused with ");
-    io::print_decimal(STDERR_FILENO, answer);
-    reason(answer);
-    io::print_decimal(STDERR_FILENO, std::num::wrapping_add_u64(place as u64, 1));
-    say(b"\n");
+pub(crate) fn refuse(rt: &HostRuntime, name: &[u8], answer: u64, place: usize) -> io::Result<()> {
+    begin(rt, name)?;
+    say(rt, b": refused with ")?;
+    say_number(rt, answer)?;
+    reason(rt, answer)?;
+    say_number(rt, (place as u64).wrapping_add(1))?;
+    say(rt, b"\n")
 }
 
-pub(crate) fn too_long(name: &[u8]) {
-    begin(name);
-    say(b": over 100,000 records, which is all that this program holds\n");
+pub(crate) fn too_long(rt: &HostRuntime, name: &[u8]) -> io::Result<()> {
+    begin(rt, name)?;
+    say(
+        rt,
+        b": over 100,000 records, which is all that this program holds\n",
+    )
 }

@@ -5,6 +5,7 @@ use crate::files::start;
 use crate::gather::{SIZE, blanks, number, put, text};
 use crate::rows::row;
 use format::{BATCH, ENTRY, Fields, HEAD, RECORD};
+use std::io;
 
 // An entry has the answer, then the value.
 const ANSWER: usize = 0;
@@ -152,8 +153,8 @@ fn member(page: &mut [u8; SIZE], at: usize, i: u64, f: Fields) -> usize
     put(page, n, b'\n')
 }
 
-fn write(fd: i32, page: &[u8; SIZE], n: usize) -> bool {
-    io::write_all(fd, start(page, n))
+fn write<P: Print>(to: &P, page: &[u8; SIZE], n: usize) -> io::Result<()> {
+    to.write_all(start(page, n))
 }
 
 // How many of the records behind a record belong to it.
@@ -164,8 +165,8 @@ fn members(f: Fields) -> u64 {
     0
 }
 
-// Writes every record of a schedule, those with an entry with it, and answers whether all could be written.
-pub(crate) fn all(fd: i32, schedule: &[u8], transcript: &[u8]) -> bool {
+// Writes every record of a schedule, those with an entry with it, unless it cannot.
+pub(crate) fn all<P: Print>(to: &P, schedule: &[u8], transcript: &[u8]) -> io::Result<()> {
     let records = format::count(schedule);
     let mut page = [0u8; SIZE];
     let mut n = 0;
@@ -185,11 +186,9 @@ pub(crate) fn all(fd: i32, schedule: &[u8], transcript: &[u8]) -> bool {
             left = members(f);
         }
         if n > SIZE - LONGEST {
-            if !write(fd, &page, n) {
-                return false;
-            }
+            write(to, &page, n)?;
             n = 0;
         }
     }
-    write(fd, &page, n)
+    write(to, &page, n)
 }
