@@ -7,7 +7,7 @@ use table::Answer;
 use tell::{put, say, value, word};
 
 // The machine, and how many words of each slice are lent.
-#[derive(Clone, Copy)]
+#[derive(Debug, Clone, Copy, PartialEq, Eq)]
 pub struct World {
     state: State,
     left: usize,

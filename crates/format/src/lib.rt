@@ -30,7 +30,7 @@ pub const BATCH: u8 = 15;
 
 // What is wrong with a schedule, and the record at which it was found; 0 where nothing is. With it how many entries the transcript
 // will have; 0 where something is wrong.
-#[derive(Clone, Copy)]
+#[derive(Debug, Clone, Copy, PartialEq, Eq)]
 pub struct Flaw {
     pub answer: u64,
     pub place: usize,
@@ -38,7 +38,7 @@ pub struct Flaw {
 }
 
 // A record's fields.
-#[derive(Clone, Copy)]
+#[derive(Debug, Clone, Copy, PartialEq, Eq)]
 pub struct Fields {
     pub call: u64,
     pub slot: usize,

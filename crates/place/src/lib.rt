@@ -8,7 +8,7 @@ use read::{Slot, guards};
 use table::Answer;
 
 // What a release answers, and the record after it.
-#[derive(Clone, Copy)]
+#[derive(Debug, Clone, Copy, PartialEq, Eq)]
 pub struct Released {
     pub answer: Answer,
     pub slot: Slot,

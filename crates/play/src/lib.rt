@@ -19,7 +19,7 @@ use write::steps;
 
 // What came of a schedule: 0, or what refuses it, and how many bytes were written.
 #[repr(C)]
-#[derive(Clone, Copy)]
+#[derive(Debug, Clone, Copy, PartialEq, Eq)]
 pub struct Played {
     pub answer: u64,
     pub written: usize,
@@ -29,7 +29,7 @@ pub struct Played {
 const CROWDED: u64 = 25;
 
 // Where the records of a part led: the machine's state, and how many bytes were read and written.
-#[derive(Clone, Copy)]
+#[derive(Debug, Clone, Copy, PartialEq, Eq)]
 pub(crate) struct Reached {
     pub state: State,
     pub used: usize,

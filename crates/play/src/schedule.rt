@@ -12,7 +12,7 @@ use read::Handle;
 use write::Opening;
 
 // What a record asks for. The operations of a batch are in the records behind it, as many as it says.
-#[derive(Clone, Copy)]
+#[derive(Debug, Clone, Copy, PartialEq, Eq)]
 pub(crate) enum Act {
     Create,
     On(usize, Handle),

@@ -133,7 +133,7 @@ pub(crate) fn turn(
 // ---- step and run, step by step
 
 // How far a call has come: whether it goes on, and its answer's number and value; while a run goes on, how many steps it made.
-#[derive(Clone, Copy)]
+#[derive(Debug, Clone, Copy, PartialEq, Eq)]
 pub(crate) struct Far {
     pub goes: bool,
     pub answer: u8,

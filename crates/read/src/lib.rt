@@ -25,7 +25,7 @@ pub const LOG_ROOM: usize = 256;
 pub const LOG_WORDS: usize = 3 * LOG_ROOM;
 
 // What a handle still has to do: the load of an enter, or putting the epoch back after a load that found null.
-#[derive(Clone, Copy)]
+#[derive(Debug, Clone, Copy, PartialEq, Eq)]
 pub enum Due {
     Nothing,
     Load,
@@ -33,7 +33,7 @@ pub enum Due {
 }
 
 // A guard, on the right copy or on the left.
-#[derive(Clone, Copy)]
+#[derive(Debug, Clone, Copy, PartialEq, Eq)]
 pub struct Guard {
     pub opened: bool,
     pub right: bool,
@@ -41,14 +41,14 @@ pub struct Guard {
 
 // What comes behind a free slot in the order in which they are handed out: the next number, if it was never used; and else the slot that
 // was first when it was freed, or the number of slots, if none was.
-#[derive(Clone, Copy)]
+#[derive(Debug, Clone, Copy, PartialEq, Eq)]
 pub enum Link {
     Fresh,
     To(usize),
 }
 
 // A handle's own record. The small fields stand together, so that it is 40 bytes long.
-#[derive(Clone, Copy)]
+#[derive(Debug, Clone, Copy, PartialEq, Eq)]
 pub struct Slot {
     pub used: bool,
     pub due: Due,
@@ -58,7 +58,7 @@ pub struct Slot {
 }
 
 // What a publish is part of.
-#[derive(Clone, Copy)]
+#[derive(Debug, Clone, Copy, PartialEq, Eq)]
 pub enum Job {
     Publish,
     Try,
@@ -67,7 +67,7 @@ pub enum Job {
 }
 
 // Where the writer stands. A poll and a snapshot say which slot, a kept operation which operation.
-#[derive(Clone, Copy)]
+#[derive(Debug, Clone, Copy, PartialEq, Eq)]
 pub enum Phase {
     Idle,
     Begin,
@@ -88,7 +88,7 @@ pub enum Phase {
 // The pointer names the copy `right`, or named it before null. The log holds `length` operations, of which the first `swapped`
 // already stand in the copy that is read. The slot `free` is handed out next, and then the one that comes behind it. Of the
 // orders of these fields that were tried, this one costs the player's appends and publishes least.
-#[derive(Clone, Copy)]
+#[derive(Debug, Clone, Copy, PartialEq, Eq)]
 pub struct Control {
     pub phase: Phase,
     pub right: bool,
@@ -102,7 +102,7 @@ pub struct Control {
     pub free: usize,
 }
 
-#[derive(Clone, Copy)]
+#[derive(Debug, Clone, Copy, PartialEq, Eq)]
 pub struct State {
     pub control: Control,
     pub slots: [Slot; SLOTS],
@@ -110,7 +110,7 @@ pub struct State {
 }
 
 // A call on a handle. Release and look up say which guard, and look up which key.
-#[derive(Clone, Copy)]
+#[derive(Debug, Clone, Copy, PartialEq, Eq)]
 pub enum Handle {
     Drop,
     Enter,
@@ -120,14 +120,14 @@ pub enum Handle {
     WasDropped,
 }
 
-#[derive(Clone, Copy)]
+#[derive(Debug, Clone, Copy, PartialEq, Eq)]
 pub enum Verdict {
     Admitted,
     Refused(Answer),
 }
 
 // What create or a call on a handle makes of its slot, and which one is handed out next.
-#[derive(Clone, Copy)]
+#[derive(Debug, Clone, Copy, PartialEq, Eq)]
 pub struct Made {
     pub answer: Answer,
     pub value: u64,
@@ -135,7 +135,7 @@ pub struct Made {
     pub free: usize,
 }
 
-#[derive(Clone, Copy)]
+#[derive(Debug, Clone, Copy, PartialEq, Eq)]
 pub struct Reply {
     pub answer: Answer,
     pub value: u64,

@@ -44,7 +44,7 @@ fn number(s: &[u8]) -> u64 {
 // ---- the sample's parts
 
 // Where a schedule or a transcript stands in the sample.
-#[derive(Clone, Copy)]
+#[derive(Debug, Clone, Copy, PartialEq, Eq)]
 struct Part {
     start: usize,
     end: usize,

@@ -21,7 +21,7 @@ const TOP: u64 = 18446744073709551615;
 // How many pairs a walk passes in a turn.
 const TURN: usize = 4;
 
-#[derive(Clone, Copy)]
+#[derive(Debug, Clone, Copy, PartialEq, Eq)]
 pub enum Answer {
     Done,
     Length,
@@ -42,7 +42,7 @@ pub enum Answer {
 }
 
 // How a key is searched: by a walk, which finds its first pair in any words; or by halving, for whoever knows that the keys rise.
-#[derive(Clone, Copy)]
+#[derive(Debug, Clone, Copy, PartialEq, Eq)]
 pub enum Search {
     Walk,
     Halve,

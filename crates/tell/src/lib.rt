@@ -237,7 +237,7 @@ fn mix_word(h: u64, i: usize, x: u64, y: u64) -> u64 {
 }
 
 // The words of `b` that are not those of `a`: how many, and a number that they make.
-#[derive(Clone, Copy)]
+#[derive(Debug, Clone, Copy, PartialEq, Eq)]
 pub struct Differing {
     pub words: u64,
     pub digest: u64,

@@ -14,7 +14,7 @@ use table::Answer;
 pub const BATCH_ROOM: usize = 64;
 
 // What a step of the writer, or a call that is made at once, makes of the control part and of the one slot that it looks at.
-#[derive(Clone, Copy)]
+#[derive(Debug, Clone, Copy, PartialEq, Eq)]
 pub struct Moved {
     pub answer: Answer,
     pub value: u64,
@@ -24,7 +24,7 @@ pub struct Moved {
 }
 
 // A call that begins a publish or a take.
-#[derive(Clone, Copy)]
+#[derive(Debug, Clone, Copy, PartialEq, Eq)]
 pub enum Opening {
     Publish,
     Try,
