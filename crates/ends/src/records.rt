@@ -1,6 +1,6 @@
 // The state's records as numbers and names: set up from a line, and told where they changed.
 use read::admission::row;
-use read::{Control, Due, GUARDS, Guard, Job, Link, Phase, SLOTS, Slot, State};
+use read::{Control, Due, GUARDS, Guard, Job, Phase, SLOTS, Slot, State};
 use std::io::Stdout;
 use tell::{one_if, put, put_name, say, value, which, word};
 
@@ -190,32 +190,11 @@ fn due_of(k: usize) -> Due {
 }
 
 // What comes behind a slot: the number behind the word `to`, and else the next.
-fn link_of(line: &[u8]) -> Link {
+fn link_of(line: &[u8]) -> Option<usize> {
     if which(b"to", word(line, 6)) == 0 {
-        return Link::To(value(line, 7) as usize);
+        return Some(value(line, 7) as usize);
     }
-    Link::Fresh
-}
-
-fn is_fresh(k: Link) -> bool {
-    match k {
-        Link::Fresh => true,
-        Link::To(_) => false,
-    }
-}
-
-fn link_number(k: Link) -> u64 {
-    match k {
-        Link::Fresh => 0,
-        Link::To(j) => j as u64,
-    }
-}
-
-fn same_link(k: Link, l: Link) -> bool {
-    if one_if(is_fresh(k)) != one_if(is_fresh(l)) {
-        return false;
-    }
-    link_number(k) == link_number(l)
+    None
 }
 
 fn slot_of(line: &[u8]) -> Slot {
@@ -251,7 +230,7 @@ fn same_slot(s: Slot, t: Slot) -> bool {
     let h = t.guards;
     let k = s.link;
     let l = t.link;
-    if !same_link(k, l) {
+    if k != l {
         return false;
     }
     if due_number(d) != due_number(e) {
@@ -279,9 +258,9 @@ fn say_guards(to: Stdout, g: [Guard; GUARDS]) {
     }
 }
 
-fn say_link(to: Stdout, k: Link) {
-    if !is_fresh(k) {
-        say(to, b" to ", link_number(k));
+fn say_link(to: Stdout, k: Option<usize>) {
+    if let Some(j) = k {
+        say(to, b" to ", j as u64);
     }
 }
 

@@ -3,7 +3,7 @@ ghost use Rattle.std.specs.Prelude.{◌≡◌};
 ghost use Rattle.read.specs.Machine.{shut as shut_rule, open_on, is_open, put_guard, first_guard, any_open, all_open, is_due, is_load, no_slot, with_reading, new_slot, no_guards};
 ghost use Rattle.read.specs.Handles.{made_of, with_due, freed as freed_rule, guarded as guarded_rule, loaded as loaded_rule, entered as entered_rule, went_on, released as released_rule};
 
-use crate::{Control, Due, GUARDS, Guard, Link, Made, Slot, truth};
+use crate::{Control, Due, GUARDS, Guard, Made, Slot, truth};
 use table::Answer;
 
 // The first guard that is open, or that is shut, by what is wanted; their number where there is none.
@@ -88,7 +88,7 @@ pub(crate) fn no_slot() -> Slot
         epoch: 0,
         guards: none,
         due: Due::Nothing,
-        link: Link::Fresh,
+        link: None,
     }
 }
 
@@ -132,7 +132,7 @@ pub fn freed(k: usize, s: Slot) -> Slot
         epoch: s.epoch,
         guards: g,
         due: d,
-        link: Link::To(k),
+        link: Some(k),
     }
 }
 

@@ -88,7 +88,7 @@ fn lacks_room(n: usize, null: bool, s: Slot) -> bool
 pub fn given(b: bool, a: Answer, v: Verdict) -> Verdict
     ensures { result ≡ given_rule b a v }
 {
-    if b { Verdict::Refused(a) } else { v }
+    if b { Err(a) } else { v }
 }
 
 // What speaks against a call; `own`: on slot 0. The smallest number is given.
@@ -101,11 +101,7 @@ pub fn verdict(c: Control, own: bool, s: Slot, h: Handle) -> Verdict
     let n = admission::number(h);
     let j = admission::guard_named(h);
     let e = admission::entry(p, admission::column(n, own));
-    let v = given(
-        lacks_room(n, c.null, s),
-        Answer::FourGuards,
-        Verdict::Admitted,
-    );
+    let v = given(lacks_room(n, c.null, s), Answer::FourGuards, Ok(()));
     let v = given(lacks_guard(n, j, g), Answer::NoGuard, v);
     let v = given(leaves_guards(n, g), Answer::GuardsOpen, v);
     let v = given(e == admission::LOCKED, Answer::Locked, v);
@@ -203,8 +199,8 @@ pub fn handle_by<'a>(
 {
     let v = verdict(c, i == 0, s, h);
     match v {
-        Verdict::Refused(a) => guards::made_of(c, a, 0, s),
-        Verdict::Admitted => act(how, c, i, s, h, left, right),
+        Err(a) => guards::made_of(c, a, 0, s),
+        Ok(()) => act(how, c, i, s, h, left, right),
     }
 }
 
@@ -229,7 +225,7 @@ fn create_verdict(c: Control) -> Verdict
     ensures { result ≡ smallest (create_signs c) }
 {
     let p = c.phase;
-    let v = given(SLOTS <= c.free, Answer::SlotsFull, Verdict::Admitted);
+    let v = given(SLOTS <= c.free, Answer::SlotsFull, Ok(()));
     given(
         admission::entry(p, CREATE) == admission::LOCKED,
         Answer::Locked,
@@ -243,8 +239,8 @@ pub fn create(c: Control, s: Slot) -> Made
 {
     let v = create_verdict(c);
     match v {
-        Verdict::Refused(a) => guards::made_of(c, a, 0, s),
-        Verdict::Admitted => {
+        Err(a) => guards::made_of(c, a, 0, s),
+        Ok(()) => {
             let i = c.free;
             let k = s.link;
             let t = guards::new_slot();

@@ -39,22 +39,16 @@ pub struct Guard {
     pub right: bool,
 }
 
-// What comes behind a free slot in the order in which they are handed out: the next number, if it was never used; and else the slot that
-// was first when it was freed, or the number of slots, if none was.
-#[derive(Debug, Clone, Copy, PartialEq, Eq)]
-pub enum Link {
-    Fresh,
-    To(usize),
-}
-
-// A handle's own record. The small fields stand together, so that it is 40 bytes long.
+// A handle's own record. The small fields stand together, so that it is 40 bytes long. In the order in which free slots are handed out
+// there comes behind a slot that was never used the next number; and behind one that was freed `link`, the slot that was first then, or
+// the number of slots, if none was.
 #[derive(Debug, Clone, Copy, PartialEq, Eq)]
 pub struct Slot {
     pub used: bool,
     pub due: Due,
     pub epoch: u64,
     pub guards: [Guard; GUARDS],
-    pub link: Link,
+    pub link: Option<usize>,
 }
 
 // What a publish is part of.
@@ -120,11 +114,8 @@ pub enum Handle {
     WasDropped,
 }
 
-#[derive(Debug, Clone, Copy, PartialEq, Eq)]
-pub enum Verdict {
-    Admitted,
-    Refused(Answer),
-}
+// What a call is judged to be: admitted, or refused with an answer.
+pub type Verdict = Result<(), Answer>;
 
 // What create or a call on a handle makes of its slot, and which one is handed out next.
 #[derive(Debug, Clone, Copy, PartialEq, Eq)]

@@ -2,16 +2,16 @@
 ghost use Rattle.std.specs.Prelude.{◌≡◌, ◌<◌};
 ghost use Rattle.read.specs.Machine.{slot_count, behind as behind_rule, free_below, walk as walk_rule, orderly as orderly_rule};
 
-use crate::{Link, SLOTS, Slot, State};
+use crate::{SLOTS, Slot, State};
 
 // What comes behind slot `i`.
-pub(crate) fn behind(i: usize, k: Link) -> usize
+pub(crate) fn behind(i: usize, k: Option<usize>) -> usize
     requires { i < slot_count }
     ensures { result ≡ behind_rule i k }
 {
     match k {
-        Link::Fresh => i + 1,
-        Link::To(j) => j,
+        None => i + 1,
+        Some(j) => j,
     }
 }
 

@@ -29,7 +29,7 @@ fn writer_verdict(column: usize, unlawful: bool, full: bool, c: Control, s: Slot
     let p = c.phase;
     let d = s.due;
     let g = s.guards;
-    let v = handles::given(full, Answer::LogFull, Verdict::Admitted);
+    let v = handles::given(full, Answer::LogFull, Ok(()));
     let v = handles::given(guards::any_open(g), Answer::GuardsOpen, v);
     let v = handles::given(
         truth::either(
@@ -51,7 +51,7 @@ pub fn step_verdict(column: usize, c: Control) -> Verdict
     let v = handles::given(
         admission::entry(p, column) == admission::NOT_NOW,
         Answer::NotNow,
-        Verdict::Admitted,
+        Ok(()),
     );
     handles::given(is_gone(p), Answer::Gone, v)
 }
@@ -135,8 +135,8 @@ pub fn append_by(
     let unlawful = !table::lawful(kind, key, amount);
     let v = writer_verdict(7, unlawful, crowds(1, c), c, s);
     match v {
-        Verdict::Admitted => appended(how, kind, key, amount, c, s, e, left, right, log),
-        Verdict::Refused(a) => steps::refused(a, c, s, e),
+        Ok(()) => appended(how, kind, key, amount, c, s, e, left, right, log),
+        Err(a) => steps::refused(a, c, s, e),
     }
 }
 
@@ -202,8 +202,8 @@ pub fn extend_by(
     let full = crowds(slices::count(ops), c);
     let v = writer_verdict(7, unlawful, full, c, s);
     match v {
-        Verdict::Admitted => extended(how, ops, c, s, e, left, right, log),
-        Verdict::Refused(a) => steps::refused(a, c, s, e),
+        Ok(()) => extended(how, ops, c, s, e, left, right, log),
+        Err(a) => steps::refused(a, c, s, e),
     }
 }
 
@@ -273,7 +273,7 @@ pub fn open_on(o: Opening, c: Control, s: Slot, e: u64) -> Moved
 {
     let v = writer_verdict(column_of(o), false, false, c, s);
     match v {
-        Verdict::Admitted => opened(o, c, s, e),
-        Verdict::Refused(a) => steps::refused(a, c, s, e),
+        Ok(()) => opened(o, c, s, e),
+        Err(a) => steps::refused(a, c, s, e),
     }
 }

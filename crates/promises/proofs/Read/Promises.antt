@@ -13,11 +13,10 @@ use Rattle.read.specs.declared.Phase.{Phase}
 use Rattle.read.specs.declared.Control.{Control}
 use Rattle.read.specs.declared.State.{State}
 use Rattle.read.specs.declared.Handle.{Handle}
-use Rattle.read.specs.declared.Verdict.{Verdict}
+use Rattle.read.specs.Machine.{Verdict, same, is_open, first_guard, any_open, all_open, is_due, is_load, no_slot, new_slot, locks, sized, orderly, judged, row, fresh}
 use Rattle.read.specs.declared.Made.{Made}
 use Rattle.read.specs.declared.Reply.{Reply}
 use Rattle.read.specs.declared.Handle.TheVariants.{Drop, Enter, GoOn, Release, LookUp, WasDropped}
-use Rattle.read.specs.Machine.{same, is_open, first_guard, any_open, all_open, is_due, is_load, no_slot, new_slot, locks, sized, orderly, judged, row, fresh}
 use Rattle.read.specs.Admission.{entry}
 use Rattle.read.specs.Handles.{given, smallest, handle_signs, freed, entered, went_on, released, guarded_copy, handle_by, handle_on, create_on}
 use Rattle.read.specs.Calls.{Lent, slot_at, handle_rule, create_rule, view_rule, pair_rule, start_rule}

@@ -5,14 +5,14 @@ use Rattle.read.proofs.handles.create.Goals as goal
 
 pub behind-requires : goal.behind-requires
 behind-requires c =
-    create_room c.args.c (sym c.create_verdict-v.ensures ∙ c.in-Admitted.is)
+    create_room c.args.c (sym c.create_verdict-v.ensures ∙ c.in-Ok.is)
 
-pub returns-in-Refused : goal.returns-in-Refused
-returns-in-Refused c =
+pub returns-in-Err : goal.returns-in-Err
+returns-in-Err c =
     let a = c.args in
-    c.made_of.ensures ∙ sym (create_refused a.c a.s _ (sym c.create_verdict-v.ensures ∙ c.in-Refused.is))
+    c.made_of.ensures ∙ sym (create_refused a.c a.s _ (sym c.create_verdict-v.ensures ∙ c.in-Err.is))
 
-pub returns-in-Admitted : goal.returns-in-Admitted
-returns-in-Admitted c =
+pub returns-in-Ok : goal.returns-in-Ok
+returns-in-Ok c =
     let a = c.args in
-    rw (c.behind.ensures, c.new_slot-t.ensures) (sym (create_made a.c a.s (sym c.create_verdict-v.ensures ∙ c.in-Admitted.is)))
+    rw (c.behind.ensures, c.new_slot-t.ensures) (sym (create_made a.c a.s (sym c.create_verdict-v.ensures ∙ c.in-Ok.is)))

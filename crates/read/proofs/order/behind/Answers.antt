@@ -7,12 +7,12 @@ pub overflow_add-result : goal.overflow_add-result
 unfolding slot_count
 overflow_add-result c = omega arith
 
-pub returns-in-Fresh : goal.returns-in-Fresh
-returns-in-Fresh c =
+pub returns-in-None : goal.returns-in-None
+returns-in-None c =
     let a = c.args in
-    add-one a.i ∙ sym (ap (behind a.i) c.in-Fresh.is)
+    add-one a.i ∙ sym (ap (behind a.i) c.in-None.is)
 
-pub returns-in-To : goal.returns-in-To
-returns-in-To c =
+pub returns-in-Some : goal.returns-in-Some
+returns-in-Some c =
     let a = c.args in
-    sym (ap (behind a.i) c.in-To.is)
+    sym (ap (behind a.i) c.in-Some.is)
