@@ -21,7 +21,8 @@ use Rattle.read.specs.declared.Made.{Made}
 use Rattle.read.specs.declared.Reply.{Reply}
 use Rattle.read.specs.declared.Handle.{Handle}
 use Rattle.read.specs.declared.Handle.TheVariants.{LookUp}
-use Rattle.read.specs.Handles.{Sign, smallest, handle_signs, made_of, guarded_copy, handled, handled_by, handle_by}
+use Rattle.read.specs.declared.Sign.{Sign}
+use Rattle.read.specs.Handles.{smallest, handle_signs, made_of, guarded_copy, handled, handled_by, handle_by}
 use Rattle.read.specs.Calls.{Lent, lent, slot_at, refusal, reply_of, handle_reply, handle_rule, create_reply, create_rule, through_rule, view_rule, pair_rule, start_rule}
 use Rattle.write.specs.Call.{Create, On}
 use Rattle.write.specs.Machine.{call_on, call_rule}

@@ -3,7 +3,8 @@ use Rattle.std.specs.Prelude.{ℕ, not, List, [], ◌∷◌, Ok, Err}
 use Rattle.table.specs.declared.Answer.TheVariants.{Done, NoSlot, NoGuard}
 use Rattle.read.specs.declared.Slot.{Slot}
 use Rattle.read.specs.Machine.{is_open}
-use Rattle.read.specs.Handles.{Sign, sign, smallest, released}
+use Rattle.read.specs.declared.Sign.{Sign}
+use Rattle.read.specs.Handles.{sign, smallest, released}
 use Rattle.place.specs.declared.Released.{Released}
 
 -- a free record has no handle; a guard that is not open is none

@@ -16,7 +16,8 @@ use Rattle.read.specs.declared.Control.{Control}
 use Rattle.read.specs.declared.Slot.{Slot}
 use Rattle.read.specs.Machine.{Verdict, is_gone}
 use Rattle.std.specs.Prelude.{Ok, Err}
-use Rattle.read.specs.Handles.{Sign, sign, smallest}
+use Rattle.read.specs.declared.Sign.{Sign}
+use Rattle.read.specs.Handles.{sign, smallest}
 use Rattle.read.specs.Calls.{Lent, lent}
 use Rattle.write.specs.declared.Moved.{Moved}
 use Rattle.write.specs.Call.{ops_in}

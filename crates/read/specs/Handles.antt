@@ -7,6 +7,7 @@ use Rattle.table.specs.declared.Answer.TheVariants as answer
 use Rattle.read.specs.declared.Due.{Due}
 use Rattle.read.specs.declared.Due.TheVariants.{Nothing, Load, Restore}
 use Rattle.read.specs.declared.Guard.{Guard}
+use Rattle.read.specs.declared.Sign.{Sign}
 use Rattle.read.specs.declared.Slot.{Slot}
 use Rattle.read.specs.declared.Control.{Control}
 use Rattle.read.specs.declared.Handle.{Handle}
@@ -16,11 +17,6 @@ use Rattle.read.specs.declared.Made.{Made}
 use Rattle.read.specs.Admission.{handle_number, guard_named, column, create_column, entry}
 
 -- ---- which refusal is given
-
--- what speaks against a call: a refusal, and whether it applies
-pub record Sign : Type 0 where
-  pub answer : Answer
-  pub applies : Bool
 
 abbrev pub sign : Answer → Bool → Sign
 sign a b = record { answer = a; applies = b }

@@ -2,11 +2,11 @@
 ghost use Rattle.std.specs.Prelude.{◌≡◌, not, ◌&&◌, slice_index};
 ghost use Rattle.read.specs.Machine.{is_load, all_open};
 ghost use Rattle.table.specs.Copy.{look_by};
-ghost use Rattle.read.specs.Handles.{mistimed as mistimed_rule, leaves_guards, lacks_guard, lacks_room, given as given_rule, smallest, handle_signs, copy_of, guarded_copy, bit as bit_rule, handled_by, handle_by, handle_on, create_signs, create_on};
+ghost use Rattle.read.specs.Handles.{mistimed as mistimed_rule, leaves_guards, lacks_guard, lacks_room, sign, smallest as smallest_rule, handle_signs, copy_of, guarded_copy, bit as bit_rule, handled_by, handle_by, handle_on, create_signs, create_on};
 
 use crate::{
-    Control, Due, GUARDS, Guard, Handle, Made, SLOTS, Slot, Verdict, admission, guards, order,
-    truth,
+    Control, Due, GUARDS, Guard, Handle, Made, SLOTS, Sign, Slot, Verdict, admission, guards,
+    order, truth,
 };
 use table::{Answer, Search};
 
@@ -84,33 +84,42 @@ fn lacks_room(n: usize, null: bool, s: Slot) -> bool
     false
 }
 
-// A sign before those that were judged.
-pub fn given(b: bool, a: Answer, v: Verdict) -> Verdict
-    ensures { result ≡ given_rule b a v }
+pub fn sign(answer: Answer, applies: bool) -> Sign
+    ensures { result ≡ sign answer applies }
 {
-    if b { Err(a) } else { v }
+    Sign { answer, applies }
 }
 
-// What speaks against a call; `own`: on slot 0. The smallest number is given.
-pub fn verdict(c: Control, own: bool, s: Slot, h: Handle) -> Verdict
-    ensures { result ≡ smallest (handle_signs c own s h) }
+// The first of the signs that applies. Those of a call stand in the order of their numbers, so that it is the smallest.
+pub fn smallest(signs: &[Sign]) -> Verdict
+    ensures { result ≡ smallest_rule signs.now }
 {
-    let p = c.phase;
-    let d = s.due;
-    let g = s.guards;
+    for sign in signs {
+        if sign.applies {
+            return Err(sign.answer);
+        }
+    }
+    Ok(())
+}
+
+// What speaks against a call; `own`: on slot 0.
+pub fn verdict(c: Control, own: bool, s: Slot, h: Handle) -> Verdict
+    ensures { result ≡ smallest_rule (handle_signs c own s h) }
+{
     let n = admission::number(h);
     let j = admission::guard_named(h);
-    let e = admission::entry(p, admission::column(n, own));
-    let v = given(lacks_room(n, c.null, s), Answer::FourGuards, Ok(()));
-    let v = given(lacks_guard(n, j, g), Answer::NoGuard, v);
-    let v = given(leaves_guards(n, g), Answer::GuardsOpen, v);
-    let v = given(e == admission::LOCKED, Answer::Locked, v);
-    let v = given(
-        truth::either(e == admission::NOT_NOW, mistimed(n, d)),
-        Answer::NotNow,
-        v,
-    );
-    given(!s.used, Answer::NoSlot, v)
+    let e = admission::entry(c.phase, admission::column(n, own));
+    smallest(&[
+        sign(Answer::NoSlot, !s.used),
+        sign(
+            Answer::NotNow,
+            e == admission::NOT_NOW || mistimed(n, s.due),
+        ),
+        sign(Answer::Locked, e == admission::LOCKED),
+        sign(Answer::GuardsOpen, leaves_guards(n, s.guards)),
+        sign(Answer::NoGuard, lacks_guard(n, j, s.guards)),
+        sign(Answer::FourGuards, lacks_room(n, c.null, s)),
+    ])
 }
 
 fn bit(b: bool) -> u64
@@ -222,15 +231,15 @@ pub fn handle<'a>(
 
 // What speaks against a create.
 fn create_verdict(c: Control) -> Verdict
-    ensures { result ≡ smallest (create_signs c) }
+    ensures { result ≡ smallest_rule (create_signs c) }
 {
-    let p = c.phase;
-    let v = given(SLOTS <= c.free, Answer::SlotsFull, Ok(()));
-    given(
-        admission::entry(p, CREATE) == admission::LOCKED,
-        Answer::Locked,
-        v,
-    )
+    smallest(&[
+        sign(
+            Answer::Locked,
+            admission::entry(c.phase, CREATE) == admission::LOCKED,
+        ),
+        sign(Answer::SlotsFull, SLOTS <= c.free),
+    ])
 }
 
 // A create: slot `c.free`, which is `s`, gets a new handle, and the one behind it is first; or refused with nothing changed.

@@ -114,6 +114,13 @@ pub enum Handle {
     WasDropped,
 }
 
+// What speaks against a call: a refusal, and whether it applies.
+#[derive(Debug, Clone, Copy, PartialEq, Eq)]
+pub struct Sign {
+    pub answer: Answer,
+    pub applies: bool,
+}
+
 // What a call is judged to be: admitted, or refused with an answer.
 pub type Verdict = Result<(), Answer>;
 

@@ -15,7 +15,8 @@ use Rattle.read.specs.declared.Job.TheVariants.{Try, TakeFirst}
 use Rattle.read.specs.declared.Control.{Control}
 use Rattle.read.specs.Machine.{Verdict, standing, log_room}
 use Rattle.std.specs.Prelude.{Ok, Err}
-use Rattle.read.specs.Handles.{Sign, smallest, with_due}
+use Rattle.read.specs.declared.Sign.{Sign}
+use Rattle.read.specs.Handles.{smallest, with_due}
 use Rattle.read.specs.Calls.{Lent, lent}
 use Rattle.write.specs.declared.Moved.{Moved}
 use Rattle.write.specs.declared.Opening.{Opening}
@@ -115,10 +116,6 @@ module _ (kind key amount : ℕ) (c : Control) (s : Slot) {u f : Bool} {v : Verd
       one_refused = append_refused one c s lawful_one refl y h how e l r g
 
 -- ---- publish, try, flush, take
-
-pub taking_by : (c : Control) {b w : Bool} {p : Phase} → b ≡ (c.first || ltb 0 c.length) → b ≡ w →
-    p ≡ elim w [ true ↦ Begin | false ↦ Null ] → p ≡ taking c
-taking_by c x y h = h ∙ ap (λ (b : Bool). elim b as (λ _. Phase) [ true ↦ Begin | false ↦ Null ]) (sym y ∙ x)
 
 module _ (o : Opening) (c : Control) (s : Slot) (e : ℕ) where
   opened_by : {m : Moved} {k : Opening} → o ≡ k → m ≡ opened k c s e → m ≡ opened o c s e

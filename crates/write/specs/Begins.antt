@@ -12,7 +12,8 @@ use Rattle.read.specs.declared.Job.TheVariants.{Publish, Try, TakeFirst}
 use Rattle.read.specs.declared.Control.{Control}
 use Rattle.read.specs.Machine.{standing, log_room, is_gone, is_due, any_open}
 use Rattle.read.specs.Admission.{entry}
-use Rattle.read.specs.Handles.{Sign, sign, smallest, with_due}
+use Rattle.read.specs.declared.Sign.{Sign}
+use Rattle.read.specs.Handles.{sign, smallest, with_due}
 use Rattle.read.specs.Calls.{Lent, lent}
 use Rattle.write.specs.declared.Moved.{Moved}
 use Rattle.write.specs.declared.Opening.{Opening}

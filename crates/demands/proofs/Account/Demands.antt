@@ -18,7 +18,8 @@ use Rattle.read.specs.declared.Control.{Control}
 use Rattle.read.specs.declared.Handle.TheVariants.{LookUp}
 use Rattle.read.specs.Machine.{Verdict, slot_count, guard_count, no_slot, log_words, fresh, is_gone, is_open, judged}
 use Rattle.std.specs.Prelude.{Ok, Err}
-use Rattle.read.specs.Handles.{smallest, handle_signs, guarded_copy, copy_of, bit, Sign}
+use Rattle.read.specs.declared.Sign.{Sign}
+use Rattle.read.specs.Handles.{smallest, handle_signs, guarded_copy, copy_of, bit}
 use Rattle.read.specs.Calls.{slot_at, through_rule}
 use Rattle.read.proofs.Verdicts.{mild, refused_mild}
 use Rattle.read.proofs.Phases.{gone_is, idle_or_gone}

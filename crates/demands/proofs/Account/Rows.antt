@@ -18,7 +18,8 @@ use Rattle.read.specs.declared.Handle.TheVariants.{Drop, Enter, GoOn, Release, L
 use Rattle.read.specs.Machine.{Verdict, underway, is_gone, locks}
 use Rattle.std.specs.Prelude.{Ok, Err}
 use Rattle.read.specs.Admission.{handle_number, column, entry, not_now, locked as locked_no}
-use Rattle.read.specs.Handles.{Sign, smallest}
+use Rattle.read.specs.declared.Sign.{Sign}
+use Rattle.read.specs.Handles.{smallest}
 use Rattle.read.proofs.Phases.{idle_or_gone}
 use Rattle.write.specs.Call.{Call, Create, On, Append, Open, Step, Run}
 use Rattle.write.specs.declared.Opening.TheVariants as opening

@@ -19,7 +19,8 @@ use Rattle.read.specs.declared.Control.{Control}
 use Rattle.read.specs.declared.State.{State}
 use Rattle.std.specs.Prelude.{Ok}
 use Rattle.read.specs.Machine.{log_room, no_slot, judged, orderly, with_reading}
-use Rattle.read.specs.Handles.{Sign, smallest, with_due}
+use Rattle.read.specs.declared.Sign.{Sign}
+use Rattle.read.specs.Handles.{smallest, with_due}
 use Rattle.read.specs.Calls.{Lent, slot_at}
 use Rattle.read.specs.declared.Reply.{Reply}
 use Rattle.read.proofs.Verdicts.{silent, refused_mild}

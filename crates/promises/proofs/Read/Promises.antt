@@ -8,6 +8,7 @@ use Rattle.table.specs.declared.Search.{Search}
 use Rattle.table.specs.Copy.{look_by}
 use Rattle.read.specs.declared.Due.{Due}
 use Rattle.read.specs.declared.Guard.{Guard}
+use Rattle.read.specs.declared.Sign.{Sign}
 use Rattle.read.specs.declared.Slot.{Slot}
 use Rattle.read.specs.declared.Phase.{Phase}
 use Rattle.read.specs.declared.Control.{Control}
@@ -18,7 +19,7 @@ use Rattle.read.specs.declared.Made.{Made}
 use Rattle.read.specs.declared.Reply.{Reply}
 use Rattle.read.specs.declared.Handle.TheVariants.{Drop, Enter, GoOn, Release, LookUp, WasDropped}
 use Rattle.read.specs.Admission.{entry}
-use Rattle.read.specs.Handles.{given, smallest, handle_signs, freed, entered, went_on, released, guarded_copy, handle_by, handle_on, create_on}
+use Rattle.read.specs.Handles.{sign, smallest, handle_signs, freed, entered, went_on, released, guarded_copy, handle_by, handle_on, create_on}
 use Rattle.read.specs.Calls.{Lent, slot_at, handle_rule, create_rule, view_rule, pair_rule, start_rule}
 use Rattle.read.proofs
 use Rattle.machine.proofs as whole
@@ -81,10 +82,12 @@ ReleasedPromise = Keeps2 (typed tt proofs.guards.released.Kinds.ps) (proofs.guar
 
 -- ---- a call on a handle, on its slot
 
-abbrev pub GivenPromise : (Bool → Answer → Verdict → Verdict) → Type 0
-GivenPromise f =
-    (b : Bool) (a : Answer) (v : Verdict) →
-    Keeps (typed tt proofs.handles.given.Kinds.ps) (proofs.handles.given.Reads.Post tt) (b, (a, (v, tt))) (f b a v)
+abbrev pub SignPromise : (Answer → Bool → Sign) → Type 0
+SignPromise = Keeps2 (typed tt proofs.handles.sign.Kinds.ps) (proofs.handles.sign.Reads.Post tt)
+
+abbrev pub SmallestPromise : (List Sign → Verdict) → Type 0
+SmallestPromise f =
+    (xs : List Sign) → Keeps (typed κ₁ proofs.handles.smallest.Kinds.ps) (proofs.handles.smallest.Reads.Post κ₁) (ref xs, tt) (f xs)
 
 abbrev pub VerdictPromise : (Control → Bool → Slot → Handle → Verdict) → Type 0
 VerdictPromise f =
@@ -208,7 +211,7 @@ pub kept :
     FreshPromise fresh × SlotAtPromise slot_at × RowPromise row × EntryPromise entry × FirstGuardPromise first_guard × IsOpenPromise is_open
     × AnyOpenPromise any_open × AllOpenPromise all_open × IsDuePromise is_due × IsLoadPromise is_load × NoSlotPromise no_slot
     × NewSlotPromise new_slot × FreedPromise freed × EnteredPromise entered × WentOnPromise (λ c s. went_on c s.due s)
-    × ReleasedPromise released × GivenPromise given × VerdictPromise (λ c own s h. smallest (handle_signs c own s h)) × GuardedCopyPromise guarded_copy × HandlePromise handle_on × HandleByPromise (λ how. handle_by (look_by how))
+    × ReleasedPromise released × SignPromise sign × SmallestPromise smallest × VerdictPromise (λ c own s h. smallest (handle_signs c own s h)) × GuardedCopyPromise guarded_copy × HandlePromise handle_on × HandleByPromise (λ how. handle_by (look_by how))
     × CreateOnPromise create_on × OrderlyPromise orderly
     × EitherPromise ◌||◌ × LocksPromise locks × SamePromise same
     × SizedPromise sized × JudgePromise judged × StartPromise start_rule × CreatePromise create_rule

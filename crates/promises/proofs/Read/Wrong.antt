@@ -15,6 +15,7 @@ use Rattle.read.specs.declared.Due.{Due}
 use Rattle.read.specs.declared.Due.TheVariants.{Nothing, Load, Restore}
 use Rattle.read.specs.declared.Guard.{Guard}
 use Rattle.std.specs.Prelude.{Some, Ok, Err}
+use Rattle.read.specs.declared.Sign.{Sign}
 use Rattle.read.specs.declared.Slot.{Slot}
 use Rattle.read.specs.declared.Job.TheVariants.{Publish}
 use Rattle.read.specs.declared.Phase.{Phase}
@@ -27,13 +28,13 @@ use Rattle.read.specs.Machine.{Verdict, standing, holding, open_on, with_use, wi
 use Rattle.read.specs.declared.Made.{Made}
 use Rattle.read.specs.declared.Reply.{Reply}
 use Rattle.read.specs.Admission.{handle_number, entry}
-use Rattle.read.specs.Handles.{mistimed, smallest, handle_signs, made_of, bumped, with_due, freed, loaded, entered, went_on, released, copy_of, bit, handle_by, handle_on, create_on}
+use Rattle.read.specs.Handles.{mistimed, sign, smallest, handle_signs, made_of, bumped, with_due, freed, loaded, entered, went_on, released, copy_of, bit, handle_by, handle_on, create_on}
 use Rattle.read.specs.Calls.{slot_at, with_slot, refusal, reply_of, Lent, lent, handle_reply, handle_rule, create_rule, view_rule, pair_rule, start_rule}
 use Rattle.table.proofs.Computes.{apart}
 use Rattle.promises.proofs.Witnesses.{copy, none, seven, falls, no_log, inside, word_at, itself}
 use Rattle.promises.proofs.Contracts.{Words, slice}
 use Rattle.read.proofs.Computes.{rules}
-use Rattle.promises.proofs.Read.Promises.{FreshPromise, SlotAtPromise, RowPromise, EntryPromise, FirstGuardPromise, IsOpenPromise, AnyOpenPromise, AllOpenPromise, IsDuePromise, IsLoadPromise, NoSlotPromise, NewSlotPromise, FreedPromise, EnteredPromise, WentOnPromise, ReleasedPromise, VerdictPromise, GuardedCopyPromise, HandlePromise, HandleByPromise, CreateOnPromise, OrderlyPromise, GivenPromise, EitherPromise, LocksPromise, SamePromise, SizedPromise, JudgePromise, StartPromise, CreatePromise, DropPromise, EnterPromise, GoOnPromise, WasDroppedPromise, OnHandlePromise, ReleasePromise, LookUpPromise, ViewPromise, PairPromise}
+use Rattle.promises.proofs.Read.Promises.{FreshPromise, SlotAtPromise, RowPromise, EntryPromise, FirstGuardPromise, IsOpenPromise, AnyOpenPromise, AllOpenPromise, IsDuePromise, IsLoadPromise, NoSlotPromise, NewSlotPromise, FreedPromise, EnteredPromise, WentOnPromise, ReleasedPromise, VerdictPromise, GuardedCopyPromise, HandlePromise, HandleByPromise, CreateOnPromise, OrderlyPromise, SignPromise, SmallestPromise, EitherPromise, LocksPromise, SamePromise, SizedPromise, JudgePromise, StartPromise, CreatePromise, DropPromise, EnterPromise, GoOnPromise, WasDroppedPromise, OnHandlePromise, ReleasePromise, LookUpPromise, ViewPromise, PairPromise}
 use Rattle.read.proofs.Cases.{state_of, with_lock}
 
 -- ---- what the witnesses are made of
@@ -381,12 +382,30 @@ admits_all_wrong : VerdictPromise (λ c own s h. Ok tt) → ⊥
 unfolding rules
 admits_all_wrong h = apart verdict refl (h idle false no_slot Enter refl)
 
--- a sign that applies is passed over; one that does not is given
-given_over_wrong : GivenPromise (λ b a v. v) → ⊥
-given_over_wrong h = apart verdict refl (h true answer.Gone (Ok tt) refl)
+-- a sign that applies does not; one that does not applies
+sign_over_wrong : SignPromise (λ a b. sign a false) → ⊥
+sign_over_wrong h = apart (λ x. bit x.applies) refl (h answer.Gone true refl)
 
-given_always_wrong : GivenPromise (λ b a v. Err a) → ⊥
-given_always_wrong h = apart verdict refl (h false answer.Gone (Ok tt) refl)
+sign_always_wrong : SignPromise (λ a b. sign a true) → ⊥
+sign_always_wrong h = apart (λ x. bit x.applies) refl (h answer.Gone false refl)
+
+-- a sign that applies is passed over
+abbrev passes_first : List Sign → Verdict
+passes_first [] = Ok tt
+passes_first (x ∷ xs) = smallest xs
+
+passes_first_wrong : SmallestPromise passes_first → ⊥
+unfolding smallest
+passes_first_wrong h = apart verdict refl (h (sign answer.Gone true ∷ []) refl)
+
+-- one that does not apply is given
+abbrev gives_first : List Sign → Verdict
+gives_first [] = Ok tt
+gives_first (x ∷ xs) = Err x.answer
+
+gives_first_wrong : SmallestPromise gives_first → ⊥
+unfolding smallest
+gives_first_wrong h = apart verdict refl (h (sign answer.Gone false ∷ []) refl)
 
 -- either is both, or the first alone
 either_both_wrong : EitherPromise ◌&&◌ → ⊥
