@@ -4,7 +4,7 @@ ghost use Rattle.read.specs.Calls.{reply_of, through_guard, through_rule, handle
 
 use crate::{judge, refusal, replied};
 use read::{Handle, Made, Reply, SLOTS, State, handles, slot_at};
-use table::Answer;
+use table::{Answer, Search};
 
 // The whole copy that a guard stands on, or a part of no words, on a state that is whole.
 fn through_guard<'a>(
@@ -73,7 +73,7 @@ fn handle_reply<'a>(st: State, slot: usize, h: Handle, left: &'a [u64], right: &
         return refusal(Answer::NoSlot, st);
     }
     let c = st.control;
-    let m = handles::handle(c, slot, slot_at(st, slot), h, left, right);
+    let m = handles::handle_by(Search::Walk, c, slot, slot_at(st, slot), h, left, right);
     reply_of(slot, m, st)
 }
 

@@ -7,7 +7,7 @@ use Rattle.table.proofs.Booleans.{both}
 use Rattle.read.specs.Machine.{Verdict}
 use Rattle.std.specs.Prelude.{Ok, Err}
 use Rattle.read.specs.declared.Sign.{Sign}
-use Rattle.read.specs.Handles.{sign, given, smallest}
+use Rattle.read.specs.Handles.{given, smallest}
 
 pub refused_not : {a : Answer} {C : Type 0} → ◌≡◌ {A = Verdict} (Err a) (Ok tt) → C
 refused_not e = let z : ◌≡◌ {A = ℕ} 0 1 = cc in absurd (omega arith)

@@ -141,29 +141,27 @@ pub struct Reply {
 }
 
 // The fresh machine: slot 0 is the writer's own handle, and the pointer is on the left.
+#[tactic(auto, unfolding(crate::specs::Machine::slot_count))]
 pub fn fresh_state() -> State
     ensures { result ≡ fresh }
 {
-    let control = Control {
-        right: false,
-        null: false,
-        lock: false,
-        first: true,
-        second: true,
-        phase: Phase::Idle,
-        job: Job::Publish,
-        length: 0,
-        swapped: 0,
-        free: 1,
-    };
-    let free = guards::no_slot();
-    let own = guards::new_slot();
-    let mut slots = [free; SLOTS];
-    slots[0] = own;
+    let mut slots = [guards::no_slot(); SLOTS];
+    slots[0] = guards::new_slot();
     State {
-        control: control,
-        slots: slots,
-        snapshots: [0u64; SLOTS],
+        control: Control {
+            right: false,
+            null: false,
+            lock: false,
+            first: true,
+            second: true,
+            phase: Phase::Idle,
+            job: Job::Publish,
+            length: 0,
+            swapped: 0,
+            free: 1,
+        },
+        slots,
+        snapshots: [0; SLOTS],
     }
 }
 
@@ -171,9 +169,9 @@ pub fn fresh_state() -> State
 pub fn slot_at(st: State, slot: usize) -> Slot
     ensures { result ≡ slot_at st slot }
 {
-    if SLOTS <= slot {
-        return guards::no_slot();
+    if slot < SLOTS {
+        st.slots[slot]
+    } else {
+        guards::no_slot()
     }
-    let slots = st.slots;
-    slots[slot]
 }

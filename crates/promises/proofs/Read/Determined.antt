@@ -27,7 +27,6 @@ use Rattle.machine.proofs.drop.Reads as drop
 use Rattle.machine.proofs.enter.Reads as enter
 use Rattle.machine.proofs.go_on.Reads as go_on
 use Rattle.read.proofs.handles.handle_by.Reads as handles_handle_by
-use Rattle.read.proofs.handles.handle.Reads as handles_handle
 use Rattle.read.proofs.handles.create.Reads as handles_create
 use Rattle.read.proofs.order.orderly.Reads as orderly
 use Rattle.machine.proofs.release.Reads as release
@@ -133,9 +132,6 @@ go_on_determined κs a r q s t h l = h ∙ sym l
 
 handles_handle_by_determined : Determines handles_handle_by.Post
 handles_handle_by_determined κs a r q s t h l = h ∙ sym l
-
-handles_handle_determined : Determines handles_handle.Post
-handles_handle_determined κs a r q s t h l = h ∙ sym l
 
 handles_create_determined : Determines handles_create.Post
 handles_create_determined κs a r q s t h l = h ∙ sym l

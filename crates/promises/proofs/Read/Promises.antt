@@ -5,7 +5,8 @@ use mathlib.Core.List.{List}
 use Rattle.promises.proofs.Contracts.{typed, Words, ref, Refs, lends, mut_refs, mut_lends, κ₁, κ₂, κ₃, Leaves, Keeps, Keeps1, Keeps2}
 use Rattle.table.specs.declared.Answer.{Answer}
 use Rattle.table.specs.declared.Search.{Search}
-use Rattle.table.specs.Copy.{look_by}
+use Rattle.table.specs.declared.Search.TheVariants.{Walk}
+use Rattle.table.specs.Copy.{look_by, look_rule}
 use Rattle.read.specs.declared.Due.{Due}
 use Rattle.read.specs.declared.Guard.{Guard}
 use Rattle.read.specs.declared.Sign.{Sign}
@@ -100,11 +101,12 @@ GuardedCopyPromise f =
     Keeps (typed κ₁ proofs.handles.guarded_copy.Kinds.ps) (proofs.handles.guarded_copy.Reads.Post κ₁)
     (gs, (j, (ref l.list, (ref r.list, tt)))) (ref (f gs j l.list r.list))
 
+-- in any words: the first pair that has the key
 abbrev pub HandlePromise : (Control → ℕ → Slot → Handle → List ℕ → List ℕ → Made) → Type 0
 HandlePromise f =
     (c : Control) (i : ℕ) (s : Slot) (h : Handle) (l r : Words) →
-    Keeps (typed κ₁ proofs.handles.handle.Kinds.ps) (proofs.handles.handle.Reads.Post κ₁)
-    (c, (i, (s, (h, (ref l.list, (ref r.list, tt)))))) (f c i s h l.list r.list)
+    Keeps (typed κ₁ proofs.handles.handle_by.Kinds.ps) (proofs.handles.handle_by.Reads.Post κ₁)
+    (Walk, (c, (i, (s, (h, (ref l.list, (ref r.list, tt))))))) (f c i s h l.list r.list)
 
 abbrev pub HandleByPromise : (Search → Control → ℕ → Slot → Handle → List ℕ → List ℕ → Made) → Type 0
 HandleByPromise f =
@@ -219,4 +221,5 @@ pub kept :
     × WasDroppedPromise (λ i. handle_rule i WasDropped) × OnHandlePromise handle_rule
     × ReleasePromise (λ i j. handle_rule i (Release j)) × LookUpPromise (λ i j key. handle_rule i (LookUp j key))
     × ViewPromise view_rule × PairPromise pair_rule
+unfolding look_by look_rule
 kept = search
