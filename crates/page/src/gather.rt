@@ -1,8 +1,8 @@
 // Text that is gathered in a page from its start on. What does not fit is left out.
 ghost use Rattle.page.specs.Page.{OnPage};
 
-use std::fmt;
 use std::fmt::{Display, Write};
+use std::{fmt, io};
 
 const SIZE: usize = 65536;
 
@@ -35,12 +35,11 @@ impl Page {
         self.len > SIZE - LONGEST
     }
 
-    pub(crate) fn as_bytes(&self) -> &[u8] {
-        &self.bytes[..self.len]
-    }
-
-    pub(crate) fn clear(&mut self) {
+    // Writes what was gathered, and begins again.
+    pub(crate) fn flush<P: Print>(&mut self, to: &P) -> io::Result<()> {
+        to.write_all(&self.bytes[..self.len])?;
         self.len = 0;
+        Ok(())
     }
 
     fn put(&mut self, byte: u8) {

@@ -16,7 +16,7 @@ pub(crate) enum Problem {
     // The first argument is no command.
     Usage,
     // FILE is not given, or too long.
-    Path(FillError),
+    Path(Error),
     // The file cannot be read.
     File(Error),
     // It has more records than fit.
@@ -28,7 +28,10 @@ pub(crate) enum Problem {
 
 impl From<FillError> for Problem {
     fn from(error: FillError) -> Problem {
-        Problem::Path(error)
+        Problem::Path(Error::from_raw_os_error(match error {
+            FillError::NotPresent => NOT_GIVEN,
+            FillError::TooLong => TOO_LONG,
+        }))
     }
 }
 
@@ -101,10 +104,9 @@ fn say<D: Display + Drop>(rt: &HostRuntime, name: &[u8], text: D) -> io::Result<
 
 // An error's text with no number of the system's behind it.
 fn words(printed: &str) -> &str {
-    match printed.rsplit_once(" (os error ") {
-        Some((words, _)) => words,
-        None => printed,
-    }
+    printed
+        .rsplit_once(" (os error ")
+        .map_or(printed, |(words, _)| words)
 }
 
 // What went wrong, in the system's words.
@@ -113,19 +115,12 @@ fn fail(rt: &HostRuntime, name: &[u8], error: Error) -> io::Result<()> {
     say(rt, name, words(printed.as_str()))
 }
 
-fn path_error(error: FillError) -> Error {
-    Error::from_raw_os_error(match error {
-        FillError::NotPresent => NOT_GIVEN,
-        FillError::TooLong => TOO_LONG,
-    })
-}
-
 pub(crate) fn tell(rt: &HostRuntime, problem: Problem) -> io::Result<()> {
     let mut room = [0u8; PATH];
     let name = name(rt, &mut room);
     match problem {
         Problem::Usage => say(rt, b"wanted", "play FILE, or show FILE"),
-        Problem::Path(error) => fail(rt, b"FILE", path_error(error)),
+        Problem::Path(error) => fail(rt, b"FILE", error),
         Problem::File(error) => fail(rt, name, error),
         Problem::TooLong => say(
             rt,

@@ -46,11 +46,13 @@ impl Display for Kind {
 #[derive(Clone, Copy)]
 struct Call(Fields);
 
-impl Call {
-    fn of(record: &[u8; RECORD]) -> Call {
+impl From<&[u8; RECORD]> for Call {
+    fn from(record: &[u8; RECORD]) -> Call {
         Call(format::fields_at(record, 0))
     }
+}
 
+impl Call {
     // How many of the records behind this one belong to it.
     fn members(&self) -> u64 {
         if self.0.call == u64::from(BATCH) {
@@ -96,14 +98,14 @@ impl Display for Call {
 }
 
 // What came of a call.
-#[derive(Clone, Copy)]
+#[derive(Clone, Copy, Default)]
 struct Entry {
     answer: u8,
     value: u64,
 }
 
-impl Entry {
-    fn of(bytes: &[u8; ENTRY]) -> Entry {
+impl From<&[u8; ENTRY]> for Entry {
+    fn from(bytes: &[u8; ENTRY]) -> Entry {
         let mut value = [0; 8];
         value.copy_from_slice(&bytes[1..]);
         Entry {
@@ -133,24 +135,21 @@ fn member(page: &mut Page, number: usize, call: Call) {
 pub(crate) fn all<P: Print>(to: &P, schedule: &[u8], transcript: &[u8]) -> io::Result<()> {
     let (records, _) = schedule.get(HEAD..).unwrap_or(&[]).as_chunks::<RECORD>();
     let (entries, _) = transcript.as_chunks::<ENTRY>();
-    let mut entries = entries.iter();
+    let mut entries = entries.iter().map(Entry::from);
     let mut page = Page::new();
     // How many of the records to come belong to the batch above them.
     let mut left = 0;
-    for (i, record) in records.iter().enumerate() {
-        let call = Call::of(record);
+    for (i, call) in records.iter().map(Call::from).enumerate() {
         if left > 0 {
             member(&mut page, i + 1, call);
             left -= 1;
         } else {
-            let entry = entries.next().unwrap_or(&[0; ENTRY]);
-            line(&mut page, i + 1, call, Entry::of(entry));
+            line(&mut page, i + 1, call, entries.next().unwrap_or_default());
             left = call.members();
         }
         if page.is_full() {
-            to.write_all(page.as_bytes())?;
-            page.clear();
+            page.flush(to)?;
         }
     }
-    to.write_all(page.as_bytes())
+    page.flush(to)
 }
