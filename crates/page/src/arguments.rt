@@ -31,14 +31,14 @@ impl FromStr for Command {
 }
 
 // An argument by its place, put into the room.
-fn argument<'a>(rt: &HostRuntime, i: usize, room: &'a mut [u8]) -> Result<&'a [u8], FillError> {
+fn argument<'a>(rt: &impl Env, i: usize, room: &'a mut [u8]) -> Result<&'a [u8], FillError> {
     let n = rt.arg(i, room)?;
     Ok(&room[..n])
 }
 
 impl Command {
     // The first argument, if it is one.
-    pub(crate) fn given(rt: &HostRuntime) -> Option<Command> {
+    pub(crate) fn given(rt: &impl Env) -> Option<Command> {
         let mut room = [0u8; WORD];
         let word = argument(rt, 1, &mut room).ok()?;
         std::str::from_utf8(word).ok()?.parse().ok()
@@ -46,17 +46,17 @@ impl Command {
 }
 
 // FILE, as it is given.
-pub(crate) fn path<'a>(rt: &HostRuntime, room: &'a mut [u8; PATH]) -> Result<&'a [u8], FillError> {
+pub(crate) fn path<'a>(rt: &impl Env, room: &'a mut [u8; PATH]) -> Result<&'a [u8], FillError> {
     argument(rt, 2, room)
 }
 
 // Whether NAME is given.
-pub(crate) fn has_name(rt: &HostRuntime) -> bool {
+pub(crate) fn has_name(rt: &impl Env) -> bool {
     !matches!(rt.arg(3, &mut [0u8; 1]), Err(FillError::NotPresent))
 }
 
 // What messages call the file: the last argument. One that is as long as the room is left out.
-pub(crate) fn name<'a>(rt: &HostRuntime, room: &'a mut [u8; PATH]) -> &'a [u8] {
+pub(crate) fn name<'a>(rt: &impl Env, room: &'a mut [u8; PATH]) -> &'a [u8] {
     let i = if has_name(rt) { 3 } else { 2 };
     argument(rt, i, room).unwrap_or(&[])
 }

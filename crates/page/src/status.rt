@@ -1,8 +1,10 @@
 // The digit on descriptor 3. The library opens files by their names alone, and this is the descriptor's.
 use crate::arguments::has_name;
 use crate::messages::{Problem, unless_closed};
+use std::env::Env;
 use std::fs::OpenOptions;
 use std::io::{Read, Write};
+use std::rt::Files;
 use std::{fs, io};
 
 const STATUS: &str = "/dev/fd/3";
@@ -40,27 +42,27 @@ impl Outcome {
     }
 }
 
-fn description<'a>(rt: &HostRuntime, room: &'a mut [u8]) -> Option<&'a str> {
+fn description<'a>(rt: &impl Files, room: &'a mut [u8]) -> Option<&'a str> {
     let mut file = fs::open(rt, DESCRIPTION).ok()?;
     let n = file.read(room).ok()?;
     std::str::from_utf8(&room[..n]).ok()
 }
 
 // Whether the descriptor is open, and for writing: what it was opened for reading alone must stay as it is.
-fn is_writable(rt: &HostRuntime) -> bool {
+fn is_writable(rt: &impl Files) -> bool {
     let mut room = [0u8; LONGEST];
     let text = description(rt, &mut room).unwrap_or("");
     text.lines().any(|line| line.starts_with("flags:")
         && (line.ends_with('1') || line.ends_with('2')))
 }
 
-fn write(rt: &HostRuntime, digit: u8) -> io::Result<()> {
+fn write(rt: &impl Files, digit: u8) -> io::Result<()> {
     let mut file = OpenOptions::new().append(true).open(rt, STATUS)?;
     file.write_all(&[digit])
 }
 
 // Only who gives NAME waits for the digit.
-pub(crate) fn put(rt: &HostRuntime, outcome: Outcome) -> io::Result<()> {
+pub(crate) fn put(rt: &(impl Env + Files), outcome: Outcome) -> io::Result<()> {
     if has_name(rt) && is_writable(rt) {
         unless_closed(write(rt, outcome.digit()))
     } else {
