@@ -30,7 +30,7 @@ impl FromStr for Command {
     }
 }
 
-// An argument by its place, put into the room.
+// An argument by its place. The room is lent: `env::args` would want it from the heap, and refuses what is not UTF-8.
 fn argument<'a>(rt: &impl Env, i: usize, room: &'a mut [u8]) -> Result<&'a [u8], FillError> {
     let n = rt.arg(i, room)?;
     Ok(&room[..n])
@@ -55,7 +55,7 @@ pub(crate) fn has_name(rt: &impl Env) -> bool {
     !matches!(rt.arg(3, &mut [0u8; 1]), Err(FillError::NotPresent))
 }
 
-// What messages call the file: the last argument. One that is as long as the room is left out.
+// What messages call the file: the last argument. One that does not fit the room is left out.
 pub(crate) fn name<'a>(rt: &impl Env, room: &'a mut [u8; PATH]) -> &'a [u8] {
     let i = if has_name(rt) { 3 } else { 2 };
     argument(rt, i, room).unwrap_or(&[])

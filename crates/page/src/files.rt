@@ -11,7 +11,8 @@ use std::{fs, io};
 // The system's number of a path that is not UTF-8: the library opens no other.
 const NOT_TEXT: i32 = 84;
 
-// Reads to the end of the input, or until the buffer is full, and answers how many bytes were read.
+// Reads to the end of the input, or until the buffer is full, and answers how many bytes were read. A loop by hand: std's `read_to_end`
+// wants room on the heap, and its `read_exact` does not say how much it read.
 fn read_all<R: Read>(from: &mut R, buf: &mut [u8]) -> io::Result<usize> {
     let mut n = 0;
     while n < buf.len() {
@@ -39,7 +40,7 @@ fn read_path(rt: &HostRuntime, path: &[u8], buf: &mut [u8]) -> io::Result<usize>
     read_all(&mut open(rt, path)?, buf)
 }
 
-// Reads FILE, unless what is wanted of it is unclear.
+// Reads FILE, if something is wanted of it.
 pub(crate) fn read<'a>(rt: &HostRuntime, buf: &'a mut [u8; SCHEDULE]) -> Result<&'a [u8], Problem>
     ensures { IfOk result (λ schedule. length schedule.now < SCHEDULE) }
 {

@@ -1,4 +1,5 @@
-// Text that is gathered in a page from its start on. What does not fit is left out.
+// Text that is gathered in a page from its start on. What does not fit is left out. The page is fixed memory: a `BufWriter` would want
+// room on the heap, and can fail.
 ghost use Rattle.page.specs.Page.{OnPage};
 
 use std::fmt::{Display, Write};
@@ -56,7 +57,7 @@ impl Page {
         }
     }
 
-    // What `write!` calls. It answers nothing, since a page takes every text.
+    // What `write!` calls. It answers nothing, since a page takes every text: `write_str` below never fails.
     pub(crate) fn write_fmt<D: Display + Drop>(&mut self, text: D) {
         let _ = self.write(text);
     }

@@ -94,7 +94,7 @@ pub(crate) fn unless_closed(written: io::Result<()>) -> io::Result<()> {
     }
 }
 
-// A line on something with a name, which need not be UTF-8.
+// A line on something with a name. The name need not be UTF-8, so it is no argument of the format.
 fn say<D: Display + Drop>(rt: &HostRuntime, name: &[u8], text: D) -> io::Result<()> {
     let to = rt.stderr();
     unless_closed(to.print("lrt: "))?;

@@ -27,7 +27,7 @@ const ANSWERS: [&str; 16] = [
 // The width of the call's column.
 const CALL_WIDE: usize = 34;
 
-// An operation's kind: its name, or its number where it has none.
+// An operation's kind: its name, or its number where it has none. The numbers are the file's, and get their text here alone.
 #[derive(Clone, Copy)]
 struct Kind(u64);
 
@@ -42,7 +42,7 @@ impl Display for Kind {
     }
 }
 
-// A call with the fields that it uses.
+// A call with the fields that it uses. The call's numbers, too, are the file's: an enum of them would have this text and nothing else.
 #[derive(Clone, Copy)]
 struct Call(Fields);
 
