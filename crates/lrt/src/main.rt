@@ -12,6 +12,7 @@ const CLOSED: u8 = 141;
 fn run(rt: &HostRuntime, schedule: &[u8], out: &mut [u8; TRANSCRIPT]) -> io::Result<()> {
     let played = play::lrt_play(schedule, out);
     if played.answer == 0 {
+        // No more is written than there is room, which the minimum shows.
         page::write(rt, schedule, &out[..played.written.min(TRANSCRIPT)])
     } else {
         let flaw = format::check(schedule);

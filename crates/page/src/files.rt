@@ -26,10 +26,8 @@ fn read_all<R: Read>(from: &mut R, buf: &mut [u8]) -> io::Result<usize> {
 }
 
 fn open(rt: &HostRuntime, path: &[u8]) -> io::Result<File> {
-    match std::str::from_utf8(path) {
-        Ok(path) => fs::open(rt, path),
-        Err(_) => Err(Error::from_raw_os_error(NOT_TEXT)),
-    }
+    let path = std::str::from_utf8(path).map_err(|_| Error::from_raw_os_error(NOT_TEXT))?;
+    fs::open(rt, path)
 }
 
 // Reads the file at a path, or standard input where that is "-".
@@ -44,9 +42,7 @@ fn read_path(rt: &HostRuntime, path: &[u8], buf: &mut [u8]) -> io::Result<usize>
 pub(crate) fn read<'a>(rt: &HostRuntime, buf: &'a mut [u8; SCHEDULE]) -> Result<&'a [u8], Problem>
     ensures { IfOk result (λ schedule. length schedule.now < SCHEDULE) }
 {
-    if Command::given(rt).is_none() {
-        return Err(Problem::Usage);
-    }
+    Command::given(rt).ok_or(Problem::Usage)?;
     let mut room = [0u8; PATH];
     let path = path(rt, &mut room)?;
     let n = read_path(rt, path, buf).map_err(Problem::File)?;
