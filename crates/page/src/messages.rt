@@ -35,7 +35,7 @@ impl From<FillError> for Problem {
     }
 }
 
-// What refuses a file, by its number, and at which record.
+// What refuses a file, by its number, which may be any and is printed, and at which record.
 #[derive(Clone, Copy)]
 pub(crate) struct Refusal {
     pub answer: u64,
@@ -110,7 +110,7 @@ fn words(printed: &str) -> &str {
 }
 
 // What went wrong, in the system's words.
-fn fail(rt: &HostRuntime, name: &[u8], error: Error) -> io::Result<()> {
+fn say_error(rt: &HostRuntime, name: &[u8], error: Error) -> io::Result<()> {
     let printed = format!(in rt.alloc(); "{error}")?;
     say(rt, name, words(printed.as_str()))
 }
@@ -120,14 +120,14 @@ pub(crate) fn tell(rt: &HostRuntime, problem: Problem) -> io::Result<()> {
     let name = name(rt, &mut room);
     match problem {
         Problem::Usage => say(rt, b"wanted", "play FILE, or show FILE"),
-        Problem::Path(error) => fail(rt, b"FILE", error),
-        Problem::File(error) => fail(rt, name, error),
+        Problem::Path(error) => say_error(rt, b"FILE", error),
+        Problem::File(error) => say_error(rt, name, error),
         Problem::TooLong => say(
             rt,
             name,
             "over 100,000 records, which is all that this program holds",
         ),
         Problem::Refused(refusal) => say(rt, name, refusal),
-        Problem::Output(error) => fail(rt, b"standard output", error),
+        Problem::Output(error) => say_error(rt, b"standard output", error),
     }
 }
