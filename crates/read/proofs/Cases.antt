@@ -46,59 +46,10 @@ module _ (gs : List Guard) (j : ℕ) where
   pub open_in : j < guard_count → is_open gs j ≡ (get_or gs j shut).opened
   open_in h = rw (lt-ltb j guard_count h)
 
-  pub open_out : guard_count ≤ j → is_open gs j ≡ false
-  open_out h = rw (le-ltb j guard_count h)
-
-  pub stands_in : j < guard_count → stands_right gs j ≡ (get_or gs j shut).right
-  stands_in h = rw (lt-ltb j guard_count h)
-
-  pub stands_out : guard_count ≤ j → stands_right gs j ≡ false
-  stands_out h = rw (le-ltb j guard_count h)
-
-  pub copy_right : (l r : List ℕ) → stands_right gs j ≡ true → guarded_copy gs j l r ≡ r
-  copy_right l r e = ap (λ b. copy_of b l r) e
-
   pub copy_left : (l r : List ℕ) → stands_right gs j ≡ false → guarded_copy gs j l r ≡ l
   copy_left l r e = ap (λ b. copy_of b l r) e
 
-module _ (j : ℕ) (x : Guard) (gs : List Guard) where
-  pub put_in : j < guard_count → put_guard j x gs ≡ set gs j x
-  put_in h = rw (lt-ltb j guard_count h, put_guard)
-
-  pub put_out : guard_count ≤ j → put_guard j x gs ≡ gs
-  put_out h = rw (le-ltb j guard_count h, put_guard)
-
 -- ---- what is done to a slot
-
-module _ (c : Control) (d : Due) (s : Slot) where
-  pub loaded_null : c.null ≡ true → loaded c d s ≡ made_of c answer.None 0 (with_due s.epoch d s)
-  loaded_null e = rw (e, loaded)
-
-  pub loaded_side :
-      c.null ≡ false → loaded c d s ≡ made_of c answer.Done (first_guard false s.guards) (guarded c.right s)
-  loaded_side e = rw (e, loaded)
-
-module _ (c : Control) (s : Slot) where
-  pub entered_inside : any_open s.guards ≡ true → entered c s ≡ loaded c s.due s
-  entered_inside e = rw (e, entered)
-
-  pub entered_outside :
-      any_open s.guards ≡ false → entered c s ≡ made_of c answer.Done 0 (with_due (bumped s.epoch) Load s)
-  entered_outside e = rw (e, entered)
-
--- by whether a guard stays open behind guard j, which is shut by x
-module _ (j : ℕ) (s : Slot) {x : Guard} {gs : List Guard} {b : Bool} (e : x ≡ shut) (f : gs ≡ put_guard j x s.guards) (q : b ≡ any_open gs) where
-  gs_is : gs ≡ put_guard j shut s.guards
-  gs_is = f ∙ ap (λ (x : Guard). put_guard j x s.guards) e
-
-  pub released_one : {r : Slot} → b ≡ true → r ≡ with_reading s.epoch gs s.due s → r ≡ released j s
-  released_one o h =
-      h ∙ ap (λ (gs : List Guard). with_reading s.epoch gs s.due s) gs_is
-      ∙ sym (rw (ap any_open (sym gs_is) ∙ sym q ∙ o, released))
-
-  pub released_last : {d : ℕ} {r : Slot} → b ≡ false → d ≡ bumped s.epoch → r ≡ with_reading d gs s.due s → r ≡ released j s
-  released_last o u h =
-      h ∙ (λ i. with_reading (u i) (gs_is i) s.due s) ∙ sym (rw (ap any_open (sym gs_is) ∙ sym q ∙ o, released))
 
 -- ---- the judgement
 
@@ -182,15 +133,6 @@ pub of_copy : (P : List ℕ → Type 0) (right : Bool) {l r : List ℕ} → P l 
 of_copy P true x y = y
 of_copy P false x y = x
 
-module _ (look : ℕ → List ℕ → List ℕ) (c : Control) (i : ℕ) (s : Slot) (h : Handle) (l r : List ℕ) where
-  pub handle_refused : (a : Answer) → smallest (handle_signs c (eqb i 0) s h) ≡ Err a → handle_by look c i s h l r ≡ made_of c a 0 s
-  unfolding handle_by
-  handle_refused a e = rw (e, handle_by)
-
-  pub handle_made : smallest (handle_signs c (eqb i 0) s h) ≡ Ok tt → handle_by look c i s h l r ≡ handled_by look c i s h l r
-  unfolding handle_by
-  handle_made e = rw (e, handle_by)
-
 -- where a call is refused, what was made is put back as it was
 pub reply_back :
     (i : ℕ) (a : Answer) (v : ℕ) (st : State) →
@@ -214,17 +156,6 @@ module _ (i : ℕ) (h : Handle) (l r : List ℕ) (st : State) where
     call_judged e = rw (e, handle_rule)
 
 -- ---- create
-
-module _ (c : Control) (s : Slot) where
-  pub create_refused : (a : Answer) → smallest (create_signs c) ≡ Err a → create_on c s ≡ made_of c a 0 s
-  unfolding create_on
-  create_refused a e = rw (e, create_on)
-
-  pub create_made :
-      smallest (create_signs c) ≡ Ok tt →
-      create_on c s ≡ record { answer = answer.Done; value = c.free; slot = new_slot; free = behind c.free s.link }
-  unfolding create_on
-  create_made e = rw (e, create_on)
 
 -- where it is made, the slot is there
 pub create_room : (c : Control) → smallest (create_signs c) ≡ Ok tt → c.free < slot_count
