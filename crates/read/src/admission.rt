@@ -5,7 +5,7 @@ ghost use Rattle.read.specs.Machine.{row as row_rule, locks as locks_rule};
 
 use crate::{Handle, Phase};
 
-// What the entries say: not now, locked.
+// What the entries say: not now, locked. Digits and no enum: an entry is read out of a word as it stands, and compared with one.
 pub const NOT_NOW: u8 = 6;
 
 pub const LOCKED: u8 = 7;
@@ -30,7 +30,7 @@ const ADMITS: [u64; 14] = [
     0o00000006666666000000,
 ];
 
-// A phase by its row.
+// A phase by its row, which is a place in the table.
 pub fn row(p: Phase) -> usize
     ensures { result ≡ row_rule p }
 {
@@ -63,7 +63,7 @@ pub fn entry(p: Phase, column: usize) -> u8
     (digits % 8) as u8
 }
 
-// A call on a handle by its number in a schedule.
+// A call on a handle by its number in a schedule, which is a place in the table.
 fn number(h: Handle) -> usize
     ensures { (result ≡ handle_number h) × (2 ≤ result) × (result < 8) }
 {

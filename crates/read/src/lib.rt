@@ -1,6 +1,6 @@
 // The reader's side: the state, handles with their epochs and guards, and what a guard shows.
 // A call stands on the control part and one slot, by value, for whoever holds a state that is known to be whole; `machine` has the calls
-// that are given a whole state.
+// that are given a whole state. The two copies come one by one, as a caller lends them: a struct would be made and taken apart at each call.
 #![tactic(auto)]
 
 pub mod admission;
@@ -32,7 +32,8 @@ pub enum Due {
     Restore,
 }
 
-// A guard, on the right copy or on the left.
+// A guard, on the right copy or on the left. No Option: a lent state may have a shut guard that names the right copy, and `machine` hands
+// it back as it is.
 #[derive(Debug, Clone, Copy, PartialEq, Eq)]
 pub struct Guard {
     pub opened: bool,
