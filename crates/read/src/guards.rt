@@ -7,7 +7,7 @@ use crate::{Control, Due, GUARDS, Guard, Made, Slot};
 use table::Answer;
 
 // The first guard that is open, or that is shut, by what is wanted; their number where there is none, and no Option: a load
-// that finds four open, which only a lent state can bring about, answers four.
+// that finds four open, which is refused before, would answer four.
 pub(crate) fn first_guard(want: bool, g: [Guard; GUARDS]) -> usize
     ensures { result ≡ first_guard want g }
 {
