@@ -13,8 +13,13 @@ ghost use Rattle.write.specs.Call.{Append, Open, Step, Run, append_one, ops_in};
 ghost use Rattle.write.specs.Machine.{call_rule};
 
 use read::{Control, Handle, Reply, SLOTS, Slot, State};
-use table::Answer;
+use table::{Answer, Search};
 use write::{Opening, begins};
+
+// The columns of step and run in the table of admissions.
+const STEP: usize = 12;
+
+const RUN: usize = 13;
 
 pub(crate) fn refusal(a: Answer, st: State) -> Reply
     ensures { result ≡ refusal_rule a st }
@@ -36,21 +41,21 @@ pub(crate) fn replied(
 ) -> Reply
     ensures { result ≡ record { answer = a; value = value; state = record { control = c; slots = slots; snapshots = snaps } } }
 {
-    let st = State {
-        control: c,
-        slots: slots,
-        snapshots: snaps,
-    };
     Reply {
         answer: a,
-        value: value,
-        state: st,
+        value,
+        state: State {
+            control: c,
+            slots,
+            snapshots: snaps,
+        },
     }
 }
 
 // ---- the start
 
 // Zeroes the slices and hands out a fresh state; a wrong length changes nothing.
+#[tactic(auto, unfolding(read::specs::Calls::start_rule))]
 pub fn start(left: &mut [u64], right: &mut [u64], log: &mut [u64]) -> Reply
     ensures { lent result left.new right.new log.new ≡ start_rule left.old right.old log.old }
 {
@@ -71,11 +76,11 @@ pub fn start(left: &mut [u64], right: &mut [u64], log: &mut [u64]) -> Reply
 // ---- on a handle
 
 // Hands out the slot freed last, or the lowest never used where none is free: a new handle, with epoch 0. The slot's snapshot stays.
+#[tactic(auto, unfolding(read::specs::Calls::create_rule))]
 pub fn create(st: State, left: &[u64], right: &[u64], log: &[u64]) -> Reply
     ensures { result ≡ create_rule left.now right.now log.now st }
 {
-    let v = judge::judge(st, left, right, log);
-    match v {
+    match judge::judge(st, left, right, log) {
         Err(a) => refusal(a, st),
         Ok(()) => reads::create_reply(st),
     }
@@ -178,19 +183,24 @@ pub fn pair<'a>(
 // Appends operations, three words each: all of them or none. While `first` they are applied at once, in order, to the copy that no
 // reader sees, later they are added to the log. Readers see them after the next publish that swaps. More than 64, a bad one, or words
 // whose number is no multiple of three: refused with 5.
+#[tactic(auto, unfolding(write::specs::Machine::call_rule, write::specs::Machine::call_on))]
 pub fn extend(st: State, ops: &[u64], left: &mut [u64], right: &mut [u64], log: &mut [u64]) -> Reply
     ensures { lent result left.new right.new log.new ≡ call_rule (Append (ops_in ops.now)) st left.old right.old log.old }
 {
-    let v = judge::judge(st, &left[..], &right[..], &log[..]);
-    match v {
-        Ok(()) => {
-            let c = st.control;
-            let snaps = st.snapshots;
-            let m = begins::extend_on(ops, c, read::slot_at(st, 0), snaps[0], left, right, log);
-            writes::put_back(0, st, m)
-        }
-        Err(a) => refusal(a, st),
+    if let Err(a) = judge::judge(st, &left[..], &right[..], &log[..]) {
+        return refusal(a, st);
     }
+    let m = begins::extend_by(
+        Search::Walk,
+        ops,
+        st.control,
+        read::slot_at(st, 0),
+        st.snapshots[0],
+        left,
+        right,
+        log,
+    );
+    writes::put_back(0, st, m)
 }
 
 // Appends one operation.
@@ -205,8 +215,7 @@ pub fn append(
 ) -> Reply
     ensures { lent result left.new right.new log.new ≡ call_rule (append_one kind key amount) st left.old right.old log.old }
 {
-    let ops = [kind, key, amount];
-    extend(st, &ops, left, right, log)
+    extend(st, &[kind, key, amount], left, right, log)
 }
 
 // Begins a publish. Its steps wait, slot by slot, for the readers that may still stand on the copy that is written.
@@ -241,15 +250,23 @@ pub fn take(st: State, left: &[u64], right: &[u64], log: &[u64]) -> Reply
 // ---- step and run
 
 // One step of the call that is under way. A poll that is held changes nothing, and is made again by the next step.
+#[tactic(auto, unfolding(write::specs::Machine::call_rule, write::specs::Machine::call_on))]
 pub fn step(st: State, left: &mut [u64], right: &mut [u64], log: &mut [u64]) -> Reply
     ensures { lent result left.new right.new log.new ≡ call_rule Step st left.old right.old log.old }
 {
-    writes::go(false, st, left, right, log)
+    if let Err(a) = writes::admit(STEP, st, &left[..], &right[..], &log[..]) {
+        return refusal(a, st);
+    }
+    runs::step_whole(st, left, right, log)
 }
 
 // Steps until the call ends, or a poll is held or declined. The value counts the steps that were made.
+#[tactic(auto, unfolding(write::specs::Machine::call_rule, write::specs::Machine::call_on))]
 pub fn run(st: State, left: &mut [u64], right: &mut [u64], log: &mut [u64]) -> Reply
     ensures { lent result left.new right.new log.new ≡ call_rule Run st left.old right.old log.old }
 {
-    writes::go(true, st, left, right, log)
+    if let Err(a) = writes::admit(RUN, st, &left[..], &right[..], &log[..]) {
+        return refusal(a, st);
+    }
+    runs::run_whole(st, left, right, log)
 }

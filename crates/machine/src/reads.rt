@@ -3,10 +3,11 @@ ghost use Rattle.std.specs.Prelude.{◌≡◌};
 ghost use Rattle.read.specs.Calls.{reply_of, through_guard, through_rule, handle_reply, handle_rule, create_reply};
 
 use crate::{judge, refusal, replied};
-use read::{Handle, Made, Reply, SLOTS, State, handles, slot_at};
+use read::{Control, Handle, Made, Reply, SLOTS, State, handles, slot_at};
 use table::{Answer, Search};
 
 // The whole copy that a guard stands on, or a part of no words, on a state that is whole.
+#[tactic(auto, unfolding(read::specs::Machine::slot_count))]
 fn through_guard<'a>(
     st: State,
     slot: usize,
@@ -19,19 +20,15 @@ fn through_guard<'a>(
     if SLOTS <= slot {
         return &left[0..0];
     }
-    let c = st.control;
     let s = slot_at(st, slot);
-    let v = handles::verdict(c, slot == 0, s, Handle::LookUp(guard, 0));
-    match v {
+    match handles::verdict(st.control, slot == 0, s, Handle::LookUp(guard, 0)) {
         Err(_) => &left[0..0],
-        Ok(()) => {
-            let g = s.guards;
-            handles::guarded_copy(g, guard, left, right)
-        }
+        Ok(()) => handles::guarded_copy(s.guards, guard, left, right),
     }
 }
 
 // The same, where the judgement admits the call.
+#[tactic(auto, unfolding(read::specs::Calls::through_rule))]
 pub(crate) fn through<'a>(
     st: State,
     slot: usize,
@@ -42,8 +39,7 @@ pub(crate) fn through<'a>(
 ) -> &'a [u64]
     ensures { result.now ≡ through_rule slot guard left.now right.now log.now st }
 {
-    let v = judge::judge(st, left, right, log);
-    match v {
+    match judge::judge(st, left, right, log) {
         Err(_) => &left[0..0],
         Ok(()) => through_guard(st, slot, guard, left, right),
     }
@@ -53,31 +49,32 @@ pub(crate) fn through<'a>(
 fn reply_of(i: usize, m: Made, st: State) -> Reply
     ensures { result ≡ reply_of i m st }
 {
-    let mut c = st.control;
-    c.free = m.free;
+    let c = Control {
+        free: m.free,
+        ..st.control
+    };
     let mut slots = st.slots;
     if i < SLOTS {
-        let t = m.slot;
-        slots[i] = t;
+        slots[i] = m.slot;
     }
-    let snaps = st.snapshots;
-    let a = m.answer;
-    replied(a, m.value, c, slots, snaps)
+    replied(m.answer, m.value, c, slots, st.snapshots)
 }
 
 // A call on the handle in a slot, on a state that is whole.
+#[tactic(auto, unfolding(read::specs::Machine::slot_count))]
 fn handle_reply<'a>(st: State, slot: usize, h: Handle, left: &'a [u64], right: &'a [u64]) -> Reply
     ensures { result ≡ handle_reply slot h left.now right.now st }
 {
     if SLOTS <= slot {
         return refusal(Answer::NoSlot, st);
     }
-    let c = st.control;
-    let m = handles::handle_by(Search::Walk, c, slot, slot_at(st, slot), h, left, right);
+    let own = slot_at(st, slot);
+    let m = handles::handle_by(Search::Walk, st.control, slot, own, h, left, right);
     reply_of(slot, m, st)
 }
 
 // A call on the handle in a slot.
+#[tactic(auto, unfolding(read::specs::Calls::handle_rule))]
 pub(crate) fn on_handle<'a>(
     st: State,
     slot: usize,
@@ -88,8 +85,7 @@ pub(crate) fn on_handle<'a>(
 ) -> Reply
     ensures { result ≡ handle_rule slot h left.now right.now log.now st }
 {
-    let v = judge::judge(st, left, right, log);
-    match v {
+    match judge::judge(st, left, right, log) {
         Err(a) => refusal(a, st),
         Ok(()) => handle_reply(st, slot, h, left, right),
     }
@@ -99,8 +95,6 @@ pub(crate) fn on_handle<'a>(
 pub(crate) fn create_reply(st: State) -> Reply
     ensures { result ≡ create_reply st }
 {
-    let c = st.control;
-    let i = c.free;
-    let m = handles::create(c, slot_at(st, i));
-    reply_of(i, m, st)
+    let i = st.control.free;
+    reply_of(i, handles::create(st.control, slot_at(st, i)), st)
 }

@@ -5,8 +5,7 @@ ghost use Rattle.table.specs.Copy.{look_by};
 ghost use Rattle.read.specs.Handles.{mistimed as mistimed_rule, leaves_guards, lacks_guard, lacks_room, sign, smallest as smallest_rule, handle_signs, guarded_copy, handled_by, handle_by, create_signs, create_on};
 
 use crate::{
-    Control, Due, GUARDS, Guard, Handle, Made, SLOTS, Sign, Slot, Verdict, admission, guards,
-    order, truth,
+    Control, Due, GUARDS, Guard, Handle, Made, SLOTS, Sign, Slot, Verdict, admission, guards, order,
 };
 use table::{Answer, Search};
 

@@ -11,10 +11,7 @@ pub mod Judged
 pub mod Refusals
 pub mod Reorders
 pub mod NeverBroken
-pub mod Next
-pub mod Lent
 pub mod Ops
-pub mod Arms
 pub mod Made
 pub mod Turns
 pub mod Computes

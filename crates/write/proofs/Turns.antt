@@ -95,10 +95,10 @@ module _ {o : Lent Reply} {k n : ℕ} {a : Answer} {c : Control} {ss : List Slot
     -- the slots are passed: the run goes on with the scan's next control part
     pub runs_scanned :
         {i₀ : ℕ} {d : Control} {m i : ℕ} {b : Answer} {p : Control} →
-        Scanned c n i₀ a d m i b ss es l r g → p ≡ scanning d i → Running o k m b p ss es l r g l₀ r₀ g₀
-    runs_scanned {m = m} w e =
+        Scanned c n i₀ a d m i b ss es l r g → (j : ℕ) → j ≡ i → p ≡ scanning d j → Running o k m b p ss es l r g l₀ r₀ g₀
+    runs_scanned {d = d} {m = m} w j x e =
         record {
-          goes = subst (λ (p : Control). Goes o k m p ss es l r g) (sym e) (w.scans o k v.goes);
+          goes = subst (λ (p : Control). Goes o k m p ss es l r g) (sym (e ∙ ap (scanning d) x)) (w.scans o k v.goes);
           done = w.quiet ∙ v.done;
           slots = v.slots;
           left = v.left;

@@ -1,31 +1,22 @@
 -- The whole machine: every call, judged on the whole state and all three lent slices.
-use Rattle.std.specs.Prelude.{ℕ, Bool, true, false, List, Ok, Err}
+use Rattle.std.specs.Prelude.{ℕ, List, Ok, Err}
 use Rattle.read.specs.declared.State.{State}
 use Rattle.read.specs.declared.Reply.{Reply}
-use Rattle.read.specs.Machine.{judged}
+use Rattle.read.specs.Machine.{Verdict, judged}
 use Rattle.read.specs.Handles.{smallest}
 use Rattle.read.specs.Calls.{Lent, lent, slot_at, refusal, handle_reply, create_reply}
 use Rattle.write.specs.Call.{Call, Create, On, Append, Open, Step, Run}
 use Rattle.write.specs.Begins.{step_signs, append_on, open_on}
 use Rattle.write.specs.Runs.{snap_at, lift, step_on, run_on}
 
--- step, in column 12 of the table of admissions, and run, in 13: refused, or made
+-- step, in column 12 of the table of admissions, and run, in 13: what speaks against one
+abbrev pub going_verdict : ℕ → State → List ℕ → List ℕ → List ℕ → Verdict
+going_verdict column st l r g = elim (judged st l r g) [ Ok _ ↦ smallest (step_signs column st.control) | Err a ↦ Err a ]
+
+-- below the judgement: refused, or made
 abbrev pub going : ℕ → (State → List ℕ → List ℕ → List ℕ → Lent Reply) → State → List ℕ → List ℕ → List ℕ → Lent Reply
 going column rule st l r g =
     elim (smallest (step_signs column st.control)) [ Ok _ ↦ rule st l r g | Err a ↦ lent (refusal a st) l r g ]
-
--- both, by whether it is run
-abbrev pub goes : Bool → Call
-goes true = Run
-goes false = Step
-
-abbrev pub going_column : Bool → ℕ
-going_column true = 13
-going_column false = 12
-
-abbrev pub going_rule : Bool → State → List ℕ → List ℕ → List ℕ → Lent Reply
-going_rule true = run_on
-going_rule false = step_on
 
 -- a call, below the judgement
 unfoldable pub call_on : Call → State → List ℕ → List ℕ → List ℕ → Lent Reply

@@ -6,22 +6,19 @@ ghost use Rattle.read.specs.Handles.{smallest, with_due};
 ghost use Rattle.read.specs.Calls.{lent};
 ghost use Rattle.write.specs.Steps.{polling, beginning};
 ghost use Rattle.write.specs.Call.{ops_in};
-ghost use Rattle.write.specs.Begins.{writer_signs, step_signs, all_lawful, crowds as crowds_rule, appended as appended_rule, append_by, append_on, column_of, begun as begun_rule, value as value_rule, taking as taking_rule, opened as opened_rule, open_on};
+ghost use Rattle.write.specs.Begins.{writer_signs, step_signs, all_lawful, crowds as crowds_rule, appended as appended_rule, append_by, column_of, begun as begun_rule, value as value_rule, taking as taking_rule, opened as opened_rule, open_on};
 
 use crate::{Moved, Opening, phases, slices, steps};
 use read::handles::sign;
 use read::{Control, Job, LOG_ROOM, Phase, Slot, Verdict, admission, guards, handles};
 use table::{Answer, Search};
 
-// The row of the phase after take's finish, in the table of admissions.
-const GONE: usize = 13;
-
 // ---- what speaks against a writer's call, by its column in the table of admissions
 
 fn is_gone(p: Phase) -> bool
     ensures { result ≡ is_gone p }
 {
-    admission::row(p) == GONE
+    matches!(p, Phase::Gone)
 }
 
 fn writer_verdict(column: usize, unlawful: bool, full: bool, c: Control, s: Slot) -> Verdict
@@ -59,9 +56,10 @@ pub fn step_verdict(column: usize, c: Control) -> Verdict
 fn stirred(s: Slot) -> Slot
     ensures { result ≡ with_due ((s.epoch + 2) % 2 ^ 64) s.due s }
 {
-    let mut t = s;
-    t.epoch = std::num::wrapping_add_u64(s.epoch, 2);
-    t
+    Slot {
+        epoch: s.epoch.wrapping_add(2),
+        ..s
+    }
 }
 
 fn value(v: u64, c: Control, s: Slot, e: u64) -> Moved
@@ -80,13 +78,7 @@ fn value(v: u64, c: Control, s: Slot, e: u64) -> Moved
 fn crowds(n: usize, c: Control) -> bool
     ensures { result ≡ crowds_rule n c }
 {
-    if c.first {
-        return false;
-    }
-    if LOG_ROOM < c.length {
-        return true;
-    }
-    LOG_ROOM - c.length < n
+    !c.first && LOG_ROOM < c.length.saturating_add(n)
 }
 
 // While `first` at once to the copy that the pointer does not name, and later into the log.
@@ -130,28 +122,10 @@ pub fn append_by(
     ensures { lent result left.new right.new log.new ≡ append_by how (op kind key amount ∷ []) c s e left.old right.old log.old }
 {
     let unlawful = !table::lawful(kind, key, amount);
-    let v = writer_verdict(7, unlawful, crowds(1, c), c, s);
-    match v {
+    match writer_verdict(7, unlawful, crowds(1, c), c, s) {
         Ok(()) => appended(how, kind, key, amount, c, s, e, left, right, log),
         Err(a) => steps::refused(a, c, s, e),
     }
-}
-
-// Append: an operation, refused or made.
-pub fn append_on(
-    kind: u64,
-    key: u64,
-    amount: u64,
-    c: Control,
-    s: Slot,
-    e: u64,
-    left: &mut [u64],
-    right: &mut [u64],
-    log: &mut [u64],
-) -> Moved
-    ensures { lent result left.new right.new log.new ≡ append_on (op kind key amount ∷ []) c s e left.old right.old log.old }
-{
-    append_by(Search::Walk, kind, key, amount, c, s, e, left, right, log)
 }
 
 // The same, of many.
@@ -197,26 +171,10 @@ pub fn extend_by(
 {
     let unlawful = !slices::lawful_batch(ops);
     let full = crowds(slices::count(ops), c);
-    let v = writer_verdict(7, unlawful, full, c, s);
-    match v {
+    match writer_verdict(7, unlawful, full, c, s) {
         Ok(()) => extended(how, ops, c, s, e, left, right, log),
         Err(a) => steps::refused(a, c, s, e),
     }
-}
-
-// Extend: operations in words, three each, all of them refused or made.
-pub fn extend_on(
-    ops: &[u64],
-    c: Control,
-    s: Slot,
-    e: u64,
-    left: &mut [u64],
-    right: &mut [u64],
-    log: &mut [u64],
-) -> Moved
-    ensures { lent result left.new right.new log.new ≡ append_on (ops_in ops.now) c s e left.old right.old log.old }
-{
-    extend_by(Search::Walk, ops, c, s, e, left, right, log)
 }
 
 // ---- publish, try, flush, take
@@ -248,28 +206,25 @@ fn taking(c: Control) -> Phase
     Phase::Null
 }
 
+#[tactic(auto, unfolding(crate::specs::Begins::opened, read::specs::Machine::slot_count))]
 fn opened(o: Opening, c: Control, s: Slot, e: u64) -> Moved
     ensures { result ≡ opened_rule o c s e }
 {
     match o {
         Opening::Publish => value(0, begun(c), s, e),
         Opening::Try => value(0, phases::standing(Phase::Poll(0), Job::Try, c), s, e),
-        Opening::Flush => {
-            if c.swapped < c.length {
-                return value(1, begun(c), s, e);
-            }
-            value(0, c, s, e)
-        }
+        Opening::Flush if c.swapped < c.length => value(1, begun(c), s, e),
+        Opening::Flush => value(0, c, s, e),
         Opening::Take => value(0, phases::standing(taking(c), Job::TakeFirst, c), s, e),
     }
 }
 
 // The beginning of a publish, a try, a flush or a take: refused, or made.
+#[tactic(auto, unfolding(crate::specs::Begins::open_on))]
 pub fn open_on(o: Opening, c: Control, s: Slot, e: u64) -> Moved
     ensures { result ≡ open_on o c s e }
 {
-    let v = writer_verdict(column_of(o), false, false, c, s);
-    match v {
+    match writer_verdict(column_of(o), false, false, c, s) {
         Ok(()) => opened(o, c, s, e),
         Err(a) => steps::refused(a, c, s, e),
     }

@@ -14,11 +14,8 @@ const LAST: usize = SLOTS - 1;
 pub(crate) fn kept(n: usize, k: usize) -> Phase
     ensures { result ≡ keeping n (k + 1) }
 {
-    if k < n {
-        let next = k + 1;
-        if next < n {
-            return Phase::Keep(next);
-        }
+    if k < n && k + 1 < n {
+        return Phase::Keep(k + 1);
     }
     Phase::Swap
 }
@@ -50,6 +47,7 @@ fn polled(c: Control) -> Phase
 }
 
 // Where slot `k` is polled next.
+#[tactic(auto, unfolding(read::specs::Machine::slot_count))]
 pub fn polling(c: Control, k: usize) -> Phase
     ensures { result ≡ polling_rule c k }
 {
@@ -60,6 +58,7 @@ pub fn polling(c: Control, k: usize) -> Phase
 }
 
 // Behind the poll of slot `k`.
+#[tactic(auto, unfolding(read::specs::Machine::slot_count))]
 pub(crate) fn passed(c: Control, k: usize) -> Phase
     ensures { result ≡ polling_rule c (k + 1) }
 {
@@ -70,6 +69,7 @@ pub(crate) fn passed(c: Control, k: usize) -> Phase
 }
 
 // A publish that is not the first polls first.
+#[tactic(auto, unfolding(read::specs::Machine::slot_count))]
 pub(crate) fn beginning(c: Control) -> Phase
     ensures { result ≡ beginning_rule c }
 {
@@ -84,15 +84,9 @@ fn published(j: Job, n: usize) -> Phase
     ensures { result ≡ published_rule j n }
 {
     match j {
-        Job::Publish => Phase::Idle,
-        Job::Try => Phase::Idle,
-        Job::TakeFirst => {
-            if 0 < n {
-                return Phase::Begin;
-            }
-            Phase::Null
-        }
-        Job::TakeSecond => Phase::Null,
+        Job::Publish | Job::Try => Phase::Idle,
+        Job::TakeFirst if 0 < n => Phase::Begin,
+        Job::TakeFirst | Job::TakeSecond => Phase::Null,
     }
 }
 
@@ -100,14 +94,13 @@ fn next_job(j: Job) -> Job
     ensures { result ≡ next_job j }
 {
     match j {
-        Job::Publish => Job::Publish,
-        Job::Try => Job::Try,
         Job::TakeFirst => Job::TakeSecond,
-        Job::TakeSecond => Job::TakeSecond,
+        _ => j,
     }
 }
 
 // Where take polls slot `k` next.
+#[tactic(auto, unfolding(read::specs::Machine::slot_count))]
 pub fn last_polling(k: usize) -> Phase
     ensures { result ≡ last_polling k }
 {
@@ -118,6 +111,7 @@ pub fn last_polling(k: usize) -> Phase
 }
 
 // Behind take's poll of slot `k`.
+#[tactic(auto, unfolding(read::specs::Machine::slot_count))]
 pub(crate) fn last_passed(k: usize) -> Phase
     ensures { result ≡ last_polling (k + 1) }
 {
@@ -128,6 +122,7 @@ pub(crate) fn last_passed(k: usize) -> Phase
 }
 
 // Behind take's snapshot of slot `k`.
+#[tactic(auto, unfolding(read::specs::Machine::slot_count))]
 pub(crate) fn last_seen(k: usize) -> Phase
     ensures { result ≡ last_snapping (k + 1) }
 {
@@ -141,23 +136,7 @@ pub(crate) fn last_seen(k: usize) -> Phase
 pub fn underway(c: Control) -> bool
     ensures { result ≡ underway_rule c.phase }
 {
-    let p = c.phase;
-    match p {
-        Phase::Idle => false,
-        Phase::Begin => true,
-        Phase::Poll(_) => true,
-        Phase::Copy => true,
-        Phase::Drain => true,
-        Phase::Keep(_) => true,
-        Phase::Swap => true,
-        Phase::Snap(_) => true,
-        Phase::Null => true,
-        Phase::Lock => true,
-        Phase::LastSnap(_) => true,
-        Phase::LastPoll(_) => true,
-        Phase::Finish => true,
-        Phase::Gone => false,
-    }
+    !matches!(c.phase, Phase::Idle | Phase::Gone)
 }
 
 // ---- the control part
@@ -166,18 +145,11 @@ pub fn underway(c: Control) -> bool
 pub(crate) fn standing(p: Phase, job: Job, c: Control) -> Control
     ensures { result ≡ standing_rule p job c }
 {
-    let lock = admission::locks(p);
     Control {
-        right: c.right,
-        null: c.null,
-        lock: lock,
-        first: c.first,
-        second: c.second,
         phase: p,
-        job: job,
-        length: c.length,
-        swapped: c.swapped,
-        free: c.free,
+        lock: admission::locks(p),
+        job,
+        ..c
     }
 }
 
@@ -185,45 +157,42 @@ pub(crate) fn standing(p: Phase, job: Job, c: Control) -> Control
 pub fn at(p: Phase, c: Control) -> Control
     ensures { result ≡ at_rule p c }
 {
-    let job = c.job;
-    standing(p, job, c)
+    standing(p, c.job, c)
 }
 
 // The log holds `n` operations, of which `s` stand in the copy that is read.
 pub(crate) fn with_log(n: usize, s: usize, c: Control) -> Control
     ensures { result ≡ with_log n s c }
 {
-    let mut d = c;
-    d.length = n;
-    d.swapped = s;
-    d
+    Control {
+        length: n,
+        swapped: s,
+        ..c
+    }
 }
 
 pub(crate) fn copied(c: Control) -> Control
     ensures { result ≡ copied_rule c }
 {
-    let mut d = c;
-    d.second = false;
-    d
+    Control { second: false, ..c }
 }
 
 // The pointer changes side, and the whole log stands in the copy that is read.
 pub(crate) fn swapped_over(c: Control) -> Control
     ensures { result ≡ swapped_over c }
 {
-    let mut d = c;
-    d.right = !c.right;
-    d.first = false;
-    d.swapped = c.length;
-    d
+    Control {
+        right: !c.right,
+        first: false,
+        swapped: c.length,
+        ..c
+    }
 }
 
 pub(crate) fn nulled(c: Control) -> Control
     ensures { result ≡ nulled_rule c }
 {
-    let mut d = c;
-    d.null = true;
-    d
+    Control { null: true, ..c }
 }
 
 // Which slot is handed out next behind take's finish: slot 0, which is `s`, unless it was free already.
@@ -237,22 +206,23 @@ fn first_then(k: usize, s: Slot) -> usize
 pub(crate) fn finished(s: Slot, c: Control) -> Control
     ensures { result ≡ finished_rule s c }
 {
-    let mut d = c;
-    d.length = 0;
-    d.swapped = 0;
-    d.free = first_then(c.free, s);
-    d
+    Control {
+        length: 0,
+        swapped: 0,
+        free: first_then(c.free, s),
+        ..c
+    }
 }
 
 // A publish ends.
 fn ended(c: Control) -> Control
     ensures { result ≡ ended_rule c }
 {
-    let j = c.job;
-    standing(published(j, c.length), next_job(j), c)
+    standing(published(c.job, c.length), next_job(c.job), c)
 }
 
 // Behind the snapshot of slot `k`.
+#[tactic(auto, unfolding(read::specs::Machine::slot_count))]
 pub(crate) fn after_snap(c: Control, k: usize) -> Control
     ensures { result ≡ snapping c (k + 1) }
 {
@@ -262,21 +232,11 @@ pub(crate) fn after_snap(c: Control, k: usize) -> Control
     ended(c)
 }
 
-// One less, or none.
-fn less(n: usize) -> usize
-    ensures { result ≡ n - 1 }
-{
-    if n == 0 {
-        return 0;
-    }
-    n - 1
-}
-
 // The first operation is taken off the log.
 pub(crate) fn drained(c: Control) -> Control
     ensures { result ≡ drained_rule c }
 {
-    let n = less(c.length);
-    let s = less(c.swapped);
+    let n = c.length.saturating_sub(1);
+    let s = c.swapped.saturating_sub(1);
     at(draining(s, n), with_log(n, s, c))
 }

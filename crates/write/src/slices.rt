@@ -15,10 +15,7 @@ use table::Search;
 fn fetch(log: &[u64], i: usize) -> u64
     ensures { result ≡ slice_index log.now i }
 {
-    if i < log.len() {
-        return log[i];
-    }
-    0
+    log.get(i).copied().unwrap_or(0)
 }
 
 // Operation `i` of the log, applied.
@@ -38,53 +35,37 @@ fn apply_logged(how: Search, w: &mut [u64], log: &[u64], i: usize)
 fn copy_over(from: &[u64], to: &mut [u64])
     ensures { to.new ≡ over from.now to.old }
 {
-    let mut i = 0;
-    while i < to.len() {
-        if from.len() <= i {
-            return;
-        }
-        to[i] = from[i];
-        i += 1;
-    }
+    let n = from.len().min(to.len());
+    to[..n].copy_from_slice(&from[..n]);
 }
 
 // ---- operations in words, three each
-
-// How many words operations may have.
-const MOST: usize = 3 * BATCH_ROOM;
 
 // How many operations there are, one that is cut short too.
 pub(crate) fn count(ops: &[u64]) -> usize
     ensures { result ≡ length (ops_in ops.now) }
 {
-    let n = ops.len() / 3;
-    if ops.len() % 3 == 0 {
-        return n;
-    }
-    n + 1
+    ops.len().div_ceil(3)
 }
 
 // Each is whole, and as its kind asks.
 fn all_lawful(ops: &[u64]) -> bool
     ensures { result ≡ all_lawful (ops_in ops.now) }
 {
-    let mut i = 0;
-    while i + 2 < ops.len() {
-        if !table::lawful(ops[i], ops[i + 1], ops[i + 2]) {
+    let (whole, rest) = ops.as_chunks::<3>();
+    for op in whole {
+        let [kind, key, amount] = *op;
+        if !table::lawful(kind, key, amount) {
             return false;
         }
-        i += 3;
     }
-    ops.len() <= i
+    rest.is_empty()
 }
 
 pub(crate) fn lawful_batch(ops: &[u64]) -> bool
     ensures { result ≡ lawful_batch (ops_in ops.now) }
 {
-    if MOST < ops.len() {
-        return false;
-    }
-    all_lawful(ops)
+    count(ops) <= BATCH_ROOM && all_lawful(ops)
 }
 
 // One after the other; a last one that is cut short is none.
@@ -92,10 +73,10 @@ fn apply_all(how: Search, w: &mut [u64], ops: &[u64])
     requires { all_lawful (ops_in ops.now) ≡ true }
     ensures { w.new ≡ operated_all_by how (ops_in ops.now) w.old }
 {
-    let mut i = 0;
-    while i + 2 < ops.len() {
-        table::apply_by(how, w, ops[i], ops[i + 1], ops[i + 2]);
-        i += 3;
+    let (whole, _) = ops.as_chunks::<3>();
+    for op in whole {
+        let [kind, key, amount] = *op;
+        table::apply_by(how, w, kind, key, amount);
     }
 }
 
@@ -174,11 +155,7 @@ pub(crate) fn unlog(log: &mut [u64], n: usize)
     ensures { log.new ≡ unlogged n log.old }
 {
     if n <= LOG_ROOM {
-        if n == 0 {
-            table::close_gap(log, 3, 0);
-        } else {
-            table::close_gap(log, 3, 3 * (n - 1));
-        }
+        table::close_gap(log, 3, 3 * n.saturating_sub(1));
     }
 }
 
@@ -206,11 +183,9 @@ pub(crate) fn enlog_all(log: &mut [u64], n: usize, ops: &[u64])
     requires { (n + length (ops_in ops.now) ≤ log_room) × (all_lawful (ops_in ops.now) ≡ true) }
     ensures { log.new ≡ logged_all n (ops_in ops.now) log.old }
 {
-    let mut n = n;
-    let mut i = 0;
-    while i + 2 < ops.len() {
-        enlog(log, n, ops[i], ops[i + 1], ops[i + 2]);
-        n += 1;
-        i += 3;
+    let (whole, _) = ops.as_chunks::<3>();
+    for (i, op) in whole.iter().enumerate() {
+        let [kind, key, amount] = *op;
+        enlog(log, n + i, kind, key, amount);
     }
 }

@@ -2,7 +2,7 @@
 ghost use Rattle.std.specs.Prelude.{◌≡◌};
 ghost use Rattle.read.specs.Calls.{lent};
 ghost use Rattle.read.specs.Machine.{place as place_rule};
-ghost use Rattle.write.specs.Steps.{at, vacated as vacated_rule, holds as holds_rule, seen as seen_rule, moved as moved_rule, refused as refused_rule, stopped as stopped_rule, poll_move, last_poll_move, step_by, step_at};
+ghost use Rattle.write.specs.Steps.{at, vacated as vacated_rule, holds as holds_rule, seen as seen_rule, moved as moved_rule, refused as refused_rule, stopped as stopped_rule, poll_move, last_poll_move, step_by};
 
 use crate::{Moved, phases, slices};
 use read::{Control, Job, Phase, Slot, guards};
@@ -12,12 +12,7 @@ use table::{Answer, Search};
 pub fn holds(s: Slot, e: u64) -> bool
     ensures { result ≡ holds_rule s e }
 {
-    if s.used {
-        if e % 2 == 1 {
-            return e == s.epoch;
-        }
-    }
-    false
+    s.used && e % 2 == 1 && e == s.epoch
 }
 
 // A used slot's epoch becomes its snapshot.
@@ -31,10 +26,7 @@ fn seen(s: Slot, e: u64) -> u64
 fn vacated(k: usize, s: Slot) -> Slot
     ensures { result ≡ vacated_rule k s }
 {
-    if s.used {
-        return guards::freed(k, s);
-    }
-    s
+    if s.used { guards::freed(k, s) } else { s }
 }
 
 // The slot that a step looks at.
@@ -42,20 +34,8 @@ pub fn place(p: Phase) -> usize
     ensures { result ≡ place_rule p }
 {
     match p {
-        Phase::Idle => 0,
-        Phase::Begin => 0,
-        Phase::Poll(k) => k,
-        Phase::Copy => 0,
-        Phase::Drain => 0,
-        Phase::Keep(_) => 0,
-        Phase::Swap => 0,
-        Phase::Snap(k) => k,
-        Phase::Null => 0,
-        Phase::Lock => 0,
-        Phase::LastSnap(k) => k,
-        Phase::LastPoll(k) => k,
-        Phase::Finish => 0,
-        Phase::Gone => 0,
+        Phase::Poll(k) | Phase::Snap(k) | Phase::LastSnap(k) | Phase::LastPoll(k) => k,
+        _ => 0,
     }
 }
 
@@ -75,18 +55,9 @@ pub(crate) fn refused(a: Answer, c: Control, s: Slot, e: u64) -> Moved
 fn moved(c: Control, s: Slot, e: u64) -> Moved
     ensures { result ≡ moved_rule c s e }
 {
-    if phases::underway(c) {
-        return Moved {
-            answer: Answer::Done,
-            value: 0,
-            control: c,
-            slot: s,
-            snapshot: e,
-        };
-    }
     Moved {
         answer: Answer::Done,
-        value: 1,
+        value: u64::from(!phases::underway(c)),
         control: c,
         slot: s,
         snapshot: e,
@@ -103,21 +74,12 @@ fn moved_to(p: Phase, c: Control, s: Slot, e: u64) -> Moved
 pub(crate) fn stopped(c: Control, s: Slot, e: u64) -> Moved
     ensures { result ≡ stopped_rule c.job c s e }
 {
-    let j = c.job;
-    match j {
-        Job::Publish => refused(Answer::Held, c, s, e),
-        Job::Try => {
-            let d = phases::at(Phase::Idle, c);
-            Moved {
-                answer: Answer::Declined,
-                value: 1,
-                control: d,
-                slot: s,
-                snapshot: e,
-            }
-        }
-        Job::TakeFirst => refused(Answer::Held, c, s, e),
-        Job::TakeSecond => refused(Answer::Held, c, s, e),
+    match c.job {
+        Job::Try => Moved {
+            value: 1,
+            ..refused(Answer::Declined, phases::at(Phase::Idle, c), s, e)
+        },
+        _ => refused(Answer::Held, c, s, e),
     }
 }
 
@@ -140,6 +102,7 @@ fn last_poll(k: usize, c: Control, s: Slot, e: u64) -> Moved
 }
 
 // One step, by how the key of an operation is searched.
+#[tactic(auto, unfolding(crate::specs::Steps::step_by, read::specs::Machine::slot_count))]
 pub fn advance_by(
     how: Search,
     c: Control,
@@ -151,8 +114,7 @@ pub fn advance_by(
 ) -> Moved
     ensures { lent result left.new right.new log.new ≡ step_by how c.phase c s e left.old right.old log.old }
 {
-    let p = c.phase;
-    match p {
+    match c.phase {
         Phase::Idle => refused(Answer::NotNow, c, s, e),
         Phase::Begin => moved_to(phases::beginning(c), c, s, e),
         Phase::Poll(k) => poll(k, c, s, e),
@@ -183,23 +145,8 @@ pub fn advance_by(
         Phase::Finish => {
             slices::erase(c.right, left, right);
             table::zero(log);
-            let t = vacated(c.free, s);
-            moved_to(Phase::Gone, phases::finished(s, c), t, e)
+            moved_to(Phase::Gone, phases::finished(s, c), vacated(c.free, s), e)
         }
         Phase::Gone => refused(Answer::Gone, c, s, e),
     }
-}
-
-// One step.
-pub fn advance(
-    c: Control,
-    s: Slot,
-    e: u64,
-    left: &mut [u64],
-    right: &mut [u64],
-    log: &mut [u64],
-) -> Moved
-    ensures { lent result left.new right.new log.new ≡ step_at c.phase c s e left.old right.old log.old }
-{
-    advance_by(Search::Walk, c, s, e, left, right, log)
 }

@@ -5,7 +5,6 @@ use Rattle.read.specs.declared.Reply.{Reply}
 use Rattle.read.specs.Calls.{Lent}
 use Rattle.read.proofs.Inner as inner
 use Rattle.machine.proofs.Inner as within
-use Rattle.read.proofs.truth.same.Reads as same
 use Rattle.read.proofs.handles.guarded_copy.Reads as guarded_copy
 use Rattle.read.proofs.fresh_state.Reads as fresh_state
 use Rattle.read.proofs.slot_at.Reads as slot_at
@@ -17,7 +16,6 @@ use Rattle.read.proofs.guards.any_open.Reads as guards_any_open
 use Rattle.read.proofs.guards.is_due.Reads as guards_is_due
 use Rattle.read.proofs.guards.freed.Reads as guards_freed
 use Rattle.read.proofs.guards.released.Reads as guards_released
-use Rattle.read.proofs.truth.either.Reads as either
 use Rattle.read.proofs.handles.sign.Reads as sign
 use Rattle.read.proofs.handles.smallest.Reads as smallest
 use Rattle.read.proofs.admission.locks.Reads as locks
@@ -96,14 +94,8 @@ sign_determined κs a r q s t h l = h ∙ sym l
 smallest_determined : Determines smallest.Post
 smallest_determined κs a r q s t h l = h ∙ sym l
 
-either_determined : Determines either.Post
-either_determined κs a r q s t h l = h ∙ sym l
-
 locks_determined : Determines locks.Post
 locks_determined κs a r q s t h l = h ∙ sym l
-
-same_determined : Determines same.Post
-same_determined κs a r q s t h l = h ∙ sym l
 
 sized_determined : Determines (within.sized).post
 sized_determined κs a r q s t h l = h ∙ sym l

@@ -1,6 +1,6 @@
 -- Each public contract as a promise of any program, a program being a function of the arguments (`Contracts`).
 use Prim.Native.Nat.{ℕ}
-use mathlib.Core.Bool.{Bool, ◌||◌}
+use mathlib.Core.Bool.{Bool}
 use mathlib.Core.List.{List}
 use Rattle.promises.proofs.Contracts.{typed, Words, ref, Refs, lends, mut_refs, mut_lends, κ₁, κ₂, κ₃, Leaves, Keeps, Keeps1, Keeps2}
 use Rattle.table.specs.declared.Answer.{Answer}
@@ -15,7 +15,7 @@ use Rattle.read.specs.declared.Phase.{Phase}
 use Rattle.read.specs.declared.Control.{Control}
 use Rattle.read.specs.declared.State.{State}
 use Rattle.read.specs.declared.Handle.{Handle}
-use Rattle.read.specs.Machine.{Verdict, same, is_open, first_guard, any_open, all_open, is_due, is_load, no_slot, new_slot, locks, sized, orderly, judged, row, fresh}
+use Rattle.read.specs.Machine.{Verdict, is_open, first_guard, any_open, all_open, is_due, is_load, no_slot, new_slot, locks, sized, orderly, judged, row, fresh}
 use Rattle.read.specs.declared.Made.{Made}
 use Rattle.read.specs.declared.Reply.{Reply}
 use Rattle.read.specs.declared.Handle.TheVariants.{Drop, Enter, GoOn, Release, LookUp, WasDropped}
@@ -126,14 +126,8 @@ OrderlyPromise = Keeps1 (typed tt proofs.order.orderly.Kinds.ps) (proofs.order.o
 
 -- ---- the judgement
 
-abbrev pub EitherPromise : (Bool → Bool → Bool) → Type 0
-EitherPromise = Keeps2 (typed tt proofs.truth.either.Kinds.ps) (proofs.truth.either.Reads.Post tt)
-
 abbrev pub LocksPromise : (Phase → Bool) → Type 0
 LocksPromise = Keeps1 (typed tt proofs.admission.locks.Kinds.ps) (proofs.admission.locks.Reads.Post tt)
-
-abbrev pub SamePromise : (Bool → Bool → Bool) → Type 0
-SamePromise = Keeps2 (typed tt proofs.truth.same.Kinds.ps) (proofs.truth.same.Reads.Post tt)
 
 abbrev pub SizedPromise : (List ℕ → List ℕ → List ℕ → Bool) → Type 0
 SizedPromise f =
@@ -215,7 +209,7 @@ pub kept :
     × NewSlotPromise new_slot × FreedPromise freed × EnteredPromise entered × WentOnPromise (λ c s. went_on c s.due s)
     × ReleasedPromise released × SignPromise sign × SmallestPromise smallest × VerdictPromise (λ c own s h. smallest (handle_signs c own s h)) × GuardedCopyPromise guarded_copy × HandlePromise handle_on × HandleByPromise (λ how. handle_by (look_by how))
     × CreateOnPromise create_on × OrderlyPromise orderly
-    × EitherPromise ◌||◌ × LocksPromise locks × SamePromise same
+    × LocksPromise locks
     × SizedPromise sized × JudgePromise judged × StartPromise start_rule × CreatePromise create_rule
     × DropPromise (λ i. handle_rule i Drop) × EnterPromise (λ i. handle_rule i Enter) × GoOnPromise (λ i. handle_rule i GoOn)
     × WasDroppedPromise (λ i. handle_rule i WasDropped) × OnHandlePromise handle_rule

@@ -13,12 +13,9 @@ use Rattle.machine.proofs.try_publish.Reads as try_publish
 use Rattle.machine.proofs.flush.Reads as flush
 use Rattle.machine.proofs.take.Reads as take
 use Rattle.write.proofs.begins.extend_by.Reads as extend_by
-use Rattle.write.proofs.begins.extend_on.Reads as extend_on
 use Rattle.write.proofs.begins.append_by.Reads as append_by
-use Rattle.write.proofs.begins.append_on.Reads as append_on
 use Rattle.write.proofs.begins.open_on.Reads as open_on
 use Rattle.write.proofs.steps.advance_by.Reads as advance_by
-use Rattle.write.proofs.steps.advance.Reads as advance
 use Rattle.write.proofs.steps.holds.Reads as holds
 use Rattle.write.proofs.steps.place.Reads as place
 use Rattle.write.proofs.phases.underway.Reads as underway
@@ -27,6 +24,7 @@ use Rattle.write.proofs.phases.polling.Reads as polling
 use Rattle.write.proofs.phases.last_polling.Reads as last_polling
 use Rattle.write.proofs.begins.step_verdict.Reads as step_verdict
 use Rattle.promises.proofs.Contracts.{Determines}
+use Rattle.table.specs.declared.Search.TheVariants.{Walk}
 
 -- two outcomes that are both what a rule says
 same :
@@ -80,9 +78,9 @@ extend_by_determined :
 extend_by_determined κs a r q s t h l = same h l
 
 extend_on_determined :
-    (κs : _) (a : _) (r q : _) (s t : _) → extend_on.Post κs a r s → extend_on.Post κs a q t →
-    (r ≡ q) × (s.1.1.1.1.0.now ≡ t.1.1.1.1.0.now) × (s.1.1.1.1.1.0.now ≡ t.1.1.1.1.1.0.now) × (s.1.1.1.1.1.1.0.now ≡ t.1.1.1.1.1.1.0.now)
-extend_on_determined κs a r q s t h l = same h l
+    (κs : _) (a : _) (r q : _) (s t : _) → extend_by.Post κs (Walk, a) r s → extend_by.Post κs (Walk, a) q t →
+    (r ≡ q) × (s.1.1.1.1.1.0.now ≡ t.1.1.1.1.1.0.now) × (s.1.1.1.1.1.1.0.now ≡ t.1.1.1.1.1.1.0.now) × (s.1.1.1.1.1.1.1.0.now ≡ t.1.1.1.1.1.1.1.0.now)
+extend_on_determined κs a = extend_by_determined κs (Walk, a)
 
 append_by_determined :
     (κs : _) (a : _) (r q : _) (s t : _) → append_by.Post κs a r s → append_by.Post κs a q t →
@@ -90,9 +88,9 @@ append_by_determined :
 append_by_determined κs a r q s t h l = same h l
 
 append_on_determined :
-    (κs : _) (a : _) (r q : _) (s t : _) → append_on.Post κs a r s → append_on.Post κs a q t →
-    (r ≡ q) × (s.1.1.1.1.1.1.0.now ≡ t.1.1.1.1.1.1.0.now) × (s.1.1.1.1.1.1.1.0.now ≡ t.1.1.1.1.1.1.1.0.now) × (s.1.1.1.1.1.1.1.1.0.now ≡ t.1.1.1.1.1.1.1.1.0.now)
-append_on_determined κs a r q s t h l = same h l
+    (κs : _) (a : _) (r q : _) (s t : _) → append_by.Post κs (Walk, a) r s → append_by.Post κs (Walk, a) q t →
+    (r ≡ q) × (s.1.1.1.1.1.1.1.0.now ≡ t.1.1.1.1.1.1.1.0.now) × (s.1.1.1.1.1.1.1.1.0.now ≡ t.1.1.1.1.1.1.1.1.0.now) × (s.1.1.1.1.1.1.1.1.1.0.now ≡ t.1.1.1.1.1.1.1.1.1.0.now)
+append_on_determined κs a = append_by_determined κs (Walk, a)
 
 advance_by_determined :
     (κs : _) (a : _) (r q : _) (s t : _) → advance_by.Post κs a r s → advance_by.Post κs a q t →
@@ -100,9 +98,9 @@ advance_by_determined :
 advance_by_determined κs a r q s t h l = same h l
 
 advance_determined :
-    (κs : _) (a : _) (r q : _) (s t : _) → advance.Post κs a r s → advance.Post κs a q t →
-    (r ≡ q) × (s.1.1.1.0.now ≡ t.1.1.1.0.now) × (s.1.1.1.1.0.now ≡ t.1.1.1.1.0.now) × (s.1.1.1.1.1.0.now ≡ t.1.1.1.1.1.0.now)
-advance_determined κs a r q s t h l = same h l
+    (κs : _) (a : _) (r q : _) (s t : _) → advance_by.Post κs (Walk, a) r s → advance_by.Post κs (Walk, a) q t →
+    (r ≡ q) × (s.1.1.1.1.0.now ≡ t.1.1.1.1.0.now) × (s.1.1.1.1.1.0.now ≡ t.1.1.1.1.1.0.now) × (s.1.1.1.1.1.1.0.now ≡ t.1.1.1.1.1.1.0.now)
+advance_determined κs a = advance_by_determined κs (Walk, a)
 
 open_on_determined : Determines open_on.Post
 open_on_determined κs a r q s t h l = h ∙ sym l

@@ -5,6 +5,7 @@ use mathlib.Core.Bool.{Bool}
 use mathlib.Core.List.{List, [], ◌∷◌}
 use Rattle.promises.proofs.Contracts.{typed, Words, ref, Refs, lends, MutRefs, mut_refs, mut_lends, κ₃, κ₄, Leaves, Keeps, Keeps1, Keeps2}
 use Rattle.table.specs.declared.Search.{Search}
+use Rattle.table.specs.declared.Search.TheVariants.{Walk}
 use Rattle.table.specs.Order.{op}
 use Rattle.read.specs.declared.Slot.{Slot}
 use Rattle.read.specs.declared.Phase.{Phase}
@@ -54,7 +55,7 @@ LastPollingPromise = Keeps1 (typed tt proofs.phases.last_polling.Kinds.ps) (proo
 abbrev pub StepVerdictPromise : (ℕ → Control → Verdict) → Type 0
 StepVerdictPromise = Keeps2 (typed tt proofs.begins.step_verdict.Kinds.ps) (proofs.begins.step_verdict.Reads.Post tt)
 
--- on the control part, one slot with its snapshot, and the lent words
+-- on the control part, one slot with its snapshot, and the lent words; the first three where keys are searched by a walk
 abbrev pub Part : Type 0
 Part = Control → Slot → ℕ → List ℕ → List ℕ → List ℕ → Lent Moved
 
@@ -62,24 +63,25 @@ abbrev pub AdvancePromise : Part → Type 0
 AdvancePromise f =
     (c : Control) (s : Slot) (e : ℕ) (l r g : Words) →
     let o = f c s e l.list r.list g.list in
-    Leaves (typed κ₃ proofs.steps.advance.Kinds.ps) (proofs.steps.advance.Reads.Post κ₃) (c, (s, (e, mut_lends l r g))) o.made
-    (c, (s, (e, mut_refs o.left o.right o.log)))
+    Leaves (typed κ₃ proofs.steps.advance_by.Kinds.ps) (proofs.steps.advance_by.Reads.Post κ₃)
+    (Walk, (c, (s, (e, mut_lends l r g)))) o.made
+    (Walk, (c, (s, (e, mut_refs o.left o.right o.log))))
 
 abbrev pub ExtendOnPromise : (List ℕ → Part) → Type 0
 ExtendOnPromise f =
     (ws : Words) (c : Control) (s : Slot) (e : ℕ) (l r g : Words) →
     let o = f ws.list c s e l.list r.list g.list in
-    Leaves (typed κ₄ proofs.begins.extend_on.Kinds.ps) (proofs.begins.extend_on.Reads.Post κ₄)
-    (ref ws.list, (c, (s, (e, mut_lends l r g)))) o.made
-    (ref ws.list, (c, (s, (e, mut_refs o.left o.right o.log))))
+    Leaves (typed κ₄ proofs.begins.extend_by.Kinds.ps) (proofs.begins.extend_by.Reads.Post κ₄)
+    (Walk, (ref ws.list, (c, (s, (e, mut_lends l r g))))) o.made
+    (Walk, (ref ws.list, (c, (s, (e, mut_refs o.left o.right o.log)))))
 
 abbrev pub AppendOnPromise : (ℕ → ℕ → ℕ → Part) → Type 0
 AppendOnPromise f =
     (kind key amount : ℕ) (c : Control) (s : Slot) (e : ℕ) (l r g : Words) →
     let o = f kind key amount c s e l.list r.list g.list in
-    Leaves (typed κ₃ proofs.begins.append_on.Kinds.ps) (proofs.begins.append_on.Reads.Post κ₃)
-    (kind, (key, (amount, (c, (s, (e, mut_lends l r g)))))) o.made
-    (kind, (key, (amount, (c, (s, (e, mut_refs o.left o.right o.log))))))
+    Leaves (typed κ₃ proofs.begins.append_by.Kinds.ps) (proofs.begins.append_by.Reads.Post κ₃)
+    (Walk, (kind, (key, (amount, (c, (s, (e, mut_lends l r g))))))) o.made
+    (Walk, (kind, (key, (amount, (c, (s, (e, mut_refs o.left o.right o.log)))))))
 
 -- the same by how keys are searched
 abbrev pub AdvanceByPromise : (Search → Part) → Type 0

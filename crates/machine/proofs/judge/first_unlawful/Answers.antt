@@ -1,9 +1,10 @@
 -- Before a turn at i what is sought is what the rule still seeks from i on.
 use Prim.Native.Nat.{ℕ}
-use mathlib.Core.Path.{sym, ap, ◌∙◌}
+use mathlib.Core.Path.{◌≡◌, sym, ap, ◌∙◌}
 use mathlib.Core.Bool.{Bool, not}
 use mathlib.Core.List.{List}
 use borrow.Author.Rules.{rules}
+use native.Mathlib.Omega.{arith}
 use Rattle.table.specs.Seek.{seek}
 use Rattle.table.proofs.Seek.{seek_here, seek_next, seek_end}
 use Rattle.read.specs.Machine.{lawful_at}
@@ -13,19 +14,20 @@ abbrev test : List ℕ → ℕ → Bool
 test g i = not (lawful_at g i)
 
 pub loop-i-init : goal.loop-i-init
-loop-i-init c = (search rules, ap (seek (test c.args.log.now) 0) (search rules))
+loop-i-init c = ap (seek (test c.args.log.now) 0) (search rules)
 
 pub returns-then-not-lawful : goal.returns-then-not-lawful
 returns-then-not-lawful c =
     let g = c.args.log.now in
-    sym (c.loop-i.invariant.1 ∙ seek_here (test g) c.loop-i.i c.args.n (search rules) (ap not (sym c.lawful.ensures ∙ c.if-not-lawful.true)))
+    sym (c.loop-i.invariant ∙ seek_here (test g) c.loop-i.i c.args.n (search rules) (ap not (sym c.lawful.ensures ∙ c.if-not-lawful.true)))
 
 pub loop-i-preserved : goal.loop-i-preserved
 loop-i-preserved c =
     let g = c.args.log.now in
-    (search rules, c.loop-i.invariant.1 ∙ seek_next (test g) c.loop-i.i c.args.n (search rules) (ap not (sym c.lawful.ensures ∙ c.if-not-lawful.false)))
+    (c.loop-i.invariant ∙ seek_next (test g) c.loop-i.i c.args.n (search rules) (ap not (sym c.lawful.ensures ∙ c.if-not-lawful.false)))
 
 pub returns : goal.returns
 returns c =
     let g = c.args.log.now in
-    sym (c.loop-i.invariant.1 ∙ seek_end (test g) c.loop-i.i c.args.n (search rules))
+    let e : c.args.n ≡ c.loop-i.i = omega (arith, c.loop-i-test.false, c.loop-i.auto.i-end) in
+    e ∙ sym (c.loop-i.invariant ∙ seek_end (test g) c.loop-i.i c.args.n (search rules))

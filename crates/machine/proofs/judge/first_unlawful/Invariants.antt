@@ -1,5 +1,5 @@
 -- Before a turn at i what is sought is what the rule still seeks from i on.
-use Prim.Native.Nat.{ℕ, ◌≤◌, ◌-◌}
+use Prim.Native.Nat.{ℕ, ◌-◌}
 use mathlib.Core.Path.{◌≡◌}
 use mathlib.Core.Bool.{Bool, not}
 use mathlib.Core.List.{List}
@@ -11,7 +11,4 @@ abbrev pub test : List ℕ → ℕ → Bool
 test g i = not (lawful_at g i)
 
 abbrev pub invariant-loop-i : goal.invariant-loop-i
-invariant-loop-i l = (l.i ≤ l.n) × (first_unlawful l.n l.log ≡ seek (test l.log) l.i (l.n - l.i))
-
-abbrev pub decreases-loop-i : goal.decreases-loop-i
-decreases-loop-i l = l.n - l.i
+invariant-loop-i l = first_unlawful l.n l.log ≡ seek (test l.log) l.i (l.n - l.i)

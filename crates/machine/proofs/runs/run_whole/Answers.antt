@@ -4,6 +4,7 @@ use mathlib.Core.Path.{refl, sym, ◌∙◌}
 use native.Mathlib.Omega.{arith}
 use borrow.Author.Rules.{rules}
 use lib.ListN.{get_or}
+use Rattle.read.specs.Machine.{slot_total}
 use Rattle.write.proofs.Turns.{holds_there, scan_begins, scan_on, scan_ends, runs_scanned, runs_stepped}
 use Rattle.write.proofs.Control.{control_whole, whole_control_lem}
 use Rattle.write.proofs.RunLaws.{goes_start, goes_few, goes_ended}
@@ -21,14 +22,14 @@ steps-init c =
       log = refl;
     }
 
-pub place-i-requires : goal.place-i-requires
-place-i-requires c = whole_control_lem c.steps.c c.steps.invariant.goes.whole
+pub place-at-requires : goal.place-at-requires
+place-at-requires c = whole_control_lem c.steps.c c.steps.invariant.goes.whole
 
 pub loop-i-init : goal.loop-i-init
 loop-i-init c =
     let v = c.steps in
-    scan_begins v.c v.n c.place-i.result v.answer-1 v.slots v.snaps v.left v.right v.log
-    (sym c.polls.ensures ∙ c.if-polls.true) c.place-i.ensures.0 c.place-i.ensures.1
+    scan_begins v.c v.n c.place-at.result v.answer-1 v.slots v.snaps v.left v.right v.log
+    (sym c.polls.ensures ∙ c.if-polls.true) c.place-at.ensures.0 c.place-at.ensures.1
 
 pub overflow_add-n : goal.overflow_add-n
 overflow_add-n c = let h = goes_few (c.loop-i.invariant.scans _ _ c.steps.invariant.goes) in omega arith
@@ -41,12 +42,13 @@ loop-i-preserved c =
     (holds_there v.slots i (get_or v.snaps i 0) _ (omega (arith, v.invariant.slots, c.loop-i-test.true)) c.holds.ensures c.if-holds.false)
 
 pub steps-preserved-then-polls : goal.steps-preserved-then-polls
-steps-preserved-then-polls c = runs_scanned c.steps.invariant c.loop-i.invariant c.scanning-c.ensures
+steps-preserved-then-polls c =
+    runs_scanned c.steps.invariant c.loop-i.invariant slot_total (omega (arith, c.loop-i-test.false, c.loop-i.auto.i-end)) c.scanning-c.ensures
 
 pub steps-smaller-then-polls : goal.steps-smaller-then-polls
 steps-smaller-then-polls c =
     let v = c.loop-i.invariant in
-    let x = runs_scanned c.steps.invariant c.loop-i.invariant c.scanning-c.ensures in
+    let x = runs_scanned c.steps.invariant c.loop-i.invariant slot_total (omega (arith, c.loop-i-test.false, c.loop-i.auto.i-end)) c.scanning-c.ensures in
     omega (arith, x.goes.count, c.steps.invariant.goes.count, v.count, v.from, c.loop-i-test.false)
 
 pub overflow_add-n-else-polls : goal.overflow_add-n-else-polls
@@ -54,14 +56,14 @@ overflow_add-n-else-polls c = let h = goes_few c.steps.invariant.goes in omega a
 
 pub steps-preserved : goal.steps-preserved
 steps-preserved c =
-    runs_stepped c.steps.invariant c.place-i.result _ c.advance-m.result _ _ _ c.place-i.ensures.0 c.place-i.ensures.1 c.advance-m.ensures
-    (sym c.underway.ensures ∙ c.steps-test.true) (sym c.polls.ensures ∙ c.if-polls.false) c.advance-m.auto.left c.advance-m.auto.right c.advance-m.auto.log
+    runs_stepped c.steps.invariant c.place-at.result _ c.advance_by-m.result _ _ _ c.place-at.ensures.0 c.place-at.ensures.1 c.advance_by-m.ensures
+    (sym c.underway.ensures ∙ c.steps-test.true) (sym c.polls.ensures ∙ c.if-polls.false) c.advance_by-m.auto.left c.advance_by-m.auto.right c.advance_by-m.auto.log
 
 pub steps-smaller : goal.steps-smaller
 steps-smaller c =
     let x =
-    runs_stepped c.steps.invariant c.place-i.result _ c.advance-m.result _ _ _ c.place-i.ensures.0 c.place-i.ensures.1 c.advance-m.ensures
-    (sym c.underway.ensures ∙ c.steps-test.true) (sym c.polls.ensures ∙ c.if-polls.false) c.advance-m.auto.left c.advance-m.auto.right c.advance-m.auto.log
+    runs_stepped c.steps.invariant c.place-at.result _ c.advance_by-m.result _ _ _ c.place-at.ensures.0 c.place-at.ensures.1 c.advance_by-m.ensures
+    (sym c.underway.ensures ∙ c.steps-test.true) (sym c.polls.ensures ∙ c.if-polls.false) c.advance_by-m.auto.left c.advance_by-m.auto.right c.advance_by-m.auto.log
     in
     omega (arith, x.goes.count, c.steps.invariant.goes.count)
 

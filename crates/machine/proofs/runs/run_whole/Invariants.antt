@@ -1,6 +1,4 @@
 -- Before each turn of the steps the run goes on from here to what it is to give; before each turn of the slot scan it stands in the
-use Prim.Native.Nat.{◌-◌}
-use Rattle.read.specs.Machine.{slot_total}
 use Rattle.write.specs.Runs.{run_on}
 use Rattle.write.proofs.Count.{left as left_of}
 use Rattle.write.proofs.Turns.{Running, Scanned}
@@ -8,10 +6,7 @@ use Rattle.read.proofs.Cases.{state_of}
 use Rattle.machine.proofs.runs.run_whole.Given as goal
 
 abbrev pub invariant-loop-i : goal.invariant-loop-i
-invariant-loop-i l = Scanned l.initial.c l.initial.n l.initial.i l.initial.answer l.c l.n l.i l.answer l.slots l.snaps l.left l.right l.log
-
-abbrev pub decreases-loop-i : goal.decreases-loop-i
-decreases-loop-i l = slot_total - l.i
+invariant-loop-i l = Scanned l.initial.c l.initial.n l.at l.initial.answer l.c l.n l.i l.answer l.slots l.snaps l.left l.right l.log
 
 abbrev pub invariant-steps : goal.invariant-steps
 invariant-steps l =
