@@ -1,7 +1,7 @@
 -- Each public contract as a promise of any program, a program being a function of the arguments (`Contracts`).
 use Prim.Native.Nat.{ℕ}
 use mathlib.Core.Bool.{Bool}
-use mathlib.Core.List.{List}
+use mathlib.Core.List.{List, ◌∷◌}
 use Rattle.promises.proofs.Contracts.{typed, Words, ref, Refs, lends, mut_refs, mut_lends, κ₁, κ₂, κ₃, Leaves, Keeps, Keeps1, Keeps2}
 use Rattle.table.specs.declared.Answer.{Answer}
 use Rattle.table.specs.declared.Search.{Search}
@@ -20,7 +20,7 @@ use Rattle.read.specs.declared.Made.{Made}
 use Rattle.read.specs.declared.Reply.{Reply}
 use Rattle.read.specs.declared.Handle.TheVariants.{Drop, Enter, GoOn, Release, LookUp, WasDropped}
 use Rattle.read.specs.Admission.{entry}
-use Rattle.read.specs.Handles.{sign, smallest, handle_signs, freed, entered, went_on, released, guarded_copy, handle_by, handle_on, create_on}
+use Rattle.read.specs.Handles.{sign, given, smallest, handle_signs, freed, entered, went_on, released, guarded_copy, handle_by, handle_on, create_on}
 use Rattle.read.specs.Calls.{Lent, slot_at, handle_rule, create_rule, view_rule, pair_rule, start_rule}
 use Rattle.read.proofs
 use Rattle.machine.proofs as whole
@@ -89,6 +89,12 @@ SignPromise = Keeps2 (typed tt proofs.handles.sign.Kinds.ps) (proofs.handles.sig
 abbrev pub SmallestPromise : (List Sign → Verdict) → Type 0
 SmallestPromise f =
     (xs : List Sign) → Keeps (typed κ₁ proofs.handles.smallest.Kinds.ps) (proofs.handles.smallest.Reads.Post κ₁) (ref xs, tt) (f xs)
+
+-- a sign before others
+abbrev pub GivenPromise : (Bool → Answer → Verdict → Verdict) → Type 0
+GivenPromise f =
+    (b : Bool) (a : Answer) (xs : List Sign) →
+    Keeps (typed κ₁ proofs.handles.smallest.Kinds.ps) (proofs.handles.smallest.Reads.Post κ₁) (ref (sign a b ∷ xs), tt) (f b a (smallest xs))
 
 abbrev pub VerdictPromise : (Control → Bool → Slot → Handle → Verdict) → Type 0
 VerdictPromise f =
@@ -207,7 +213,7 @@ pub kept :
     FreshPromise fresh × SlotAtPromise slot_at × RowPromise row × EntryPromise entry × FirstGuardPromise first_guard × IsOpenPromise is_open
     × AnyOpenPromise any_open × AllOpenPromise all_open × IsDuePromise is_due × IsLoadPromise is_load × NoSlotPromise no_slot
     × NewSlotPromise new_slot × FreedPromise freed × EnteredPromise entered × WentOnPromise (λ c s. went_on c s.due s)
-    × ReleasedPromise released × SignPromise sign × SmallestPromise smallest × VerdictPromise (λ c own s h. smallest (handle_signs c own s h)) × GuardedCopyPromise guarded_copy × HandlePromise handle_on × HandleByPromise (λ how. handle_by (look_by how))
+    × ReleasedPromise released × SignPromise sign × SmallestPromise smallest × GivenPromise given × VerdictPromise (λ c own s h. smallest (handle_signs c own s h)) × GuardedCopyPromise guarded_copy × HandlePromise handle_on × HandleByPromise (λ how. handle_by (look_by how))
     × CreateOnPromise create_on × OrderlyPromise orderly
     × LocksPromise locks
     × SizedPromise sized × JudgePromise judged × StartPromise start_rule × CreatePromise create_rule
@@ -215,5 +221,5 @@ pub kept :
     × WasDroppedPromise (λ i. handle_rule i WasDropped) × OnHandlePromise handle_rule
     × ReleasePromise (λ i j. handle_rule i (Release j)) × LookUpPromise (λ i j key. handle_rule i (LookUp j key))
     × ViewPromise view_rule × PairPromise pair_rule
-unfolding look_by look_rule
+unfolding smallest look_by look_rule
 kept = search

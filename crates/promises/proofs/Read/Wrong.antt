@@ -34,7 +34,7 @@ use Rattle.table.proofs.Computes.{apart}
 use Rattle.promises.proofs.Witnesses.{copy, none, seven, falls, no_log, inside, word_at, itself}
 use Rattle.promises.proofs.Contracts.{Words, slice}
 use Rattle.read.proofs.Computes.{rules}
-use Rattle.promises.proofs.Read.Promises.{FreshPromise, SlotAtPromise, RowPromise, EntryPromise, FirstGuardPromise, IsOpenPromise, AnyOpenPromise, AllOpenPromise, IsDuePromise, IsLoadPromise, NoSlotPromise, NewSlotPromise, FreedPromise, EnteredPromise, WentOnPromise, ReleasedPromise, VerdictPromise, GuardedCopyPromise, HandlePromise, HandleByPromise, CreateOnPromise, OrderlyPromise, SignPromise, SmallestPromise, LocksPromise, SizedPromise, JudgePromise, StartPromise, CreatePromise, DropPromise, EnterPromise, GoOnPromise, WasDroppedPromise, OnHandlePromise, ReleasePromise, LookUpPromise, ViewPromise, PairPromise}
+use Rattle.promises.proofs.Read.Promises.{FreshPromise, SlotAtPromise, RowPromise, EntryPromise, FirstGuardPromise, IsOpenPromise, AnyOpenPromise, AllOpenPromise, IsDuePromise, IsLoadPromise, NoSlotPromise, NewSlotPromise, FreedPromise, EnteredPromise, WentOnPromise, ReleasedPromise, VerdictPromise, GuardedCopyPromise, HandlePromise, HandleByPromise, CreateOnPromise, OrderlyPromise, SignPromise, SmallestPromise, GivenPromise, LocksPromise, SizedPromise, JudgePromise, StartPromise, CreatePromise, DropPromise, EnterPromise, GoOnPromise, WasDroppedPromise, OnHandlePromise, ReleasePromise, LookUpPromise, ViewPromise, PairPromise}
 use Rattle.read.proofs.Cases.{state_of, with_lock}
 
 -- ---- what the witnesses are made of
@@ -388,6 +388,15 @@ sign_over_wrong h = apart (λ x. bit x.applies) refl (h answer.Gone true refl)
 
 sign_always_wrong : SignPromise (λ a b. sign a true) → ⊥
 sign_always_wrong h = apart (λ x. bit x.applies) refl (h answer.Gone false refl)
+
+-- a sign that applies is passed over; one that does not is given
+given_over_wrong : GivenPromise (λ b a v. v) → ⊥
+unfolding smallest
+given_over_wrong h = apart verdict refl (h true answer.Gone [] refl)
+
+given_always_wrong : GivenPromise (λ b a v. Err a) → ⊥
+unfolding smallest
+given_always_wrong h = apart verdict refl (h false answer.Gone [] refl)
 
 -- a sign that applies is passed over
 abbrev passes_first : List Sign → Verdict
