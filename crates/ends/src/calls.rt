@@ -22,7 +22,7 @@ const WHOLE: Lengths = Lengths {
 };
 
 // The machine, its slices, and what is lent of them.
-#[derive(Debug, Clone, Copy, PartialEq, Eq)]
+#[derive(Clone, Copy)]
 pub(crate) struct World {
     state: State,
     lengths: Lengths,

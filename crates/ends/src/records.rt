@@ -10,6 +10,7 @@ use tell::{say, value, word};
 // The jobs in the order of their numbers.
 const JOBS: [Job; 4] = [Job::Publish, Job::Try, Job::TakeFirst, Job::TakeSecond];
 
+// How many stand before it.
 fn job_number(job: Job) -> u64 {
     JOBS.iter().take_while(|j| **j != job).count() as u64
 }
@@ -70,7 +71,7 @@ fn phase_of(name: &[u8], k: usize) -> Phase {
     }
 }
 
-// A phase as a line names it.
+// A phase as a line names it. The text stands in a type of its own, since `read` has no texts.
 #[derive(Clone, Copy)]
 struct PhaseText(Phase);
 
@@ -150,7 +151,7 @@ fn slot_of(line: &[u8]) -> Slot {
     }
 }
 
-// A slot as a line sets it up.
+// Likewise a slot, as a line sets it up.
 #[derive(Clone, Copy)]
 struct SlotText(Slot);
 
@@ -178,14 +179,16 @@ fn letter(guard: Guard) -> char {
 
 impl Display for SlotText {
     fn fmt<W: fmt::Write>(&self, f: &mut Formatter<W>) -> fmt::Result {
-        let [a, b, c, d] = self.0.guards.map(letter);
         write!(
             f,
-            "{} {} {} {a}{b}{c}{d}",
+            "{} {} {} ",
             self.use_name(),
             self.0.epoch,
             self.due_name()
         )?;
+        for guard in self.0.guards {
+            write!(f, "{}", letter(guard))?;
+        }
         match self.0.link {
             Link::Fresh => Ok(()),
             Link::To(k) => write!(f, " to {k}"),

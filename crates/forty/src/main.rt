@@ -74,7 +74,7 @@ fn keys() -> [u64; KEYS] {
 type Told = [u64; OUT];
 
 // A machine that is read through its guard.
-#[derive(Debug, Clone, Copy, PartialEq, Eq)]
+#[derive(Clone, Copy)]
 struct Reader<'a> {
     state: State,
     left: &'a [u64],
@@ -92,9 +92,10 @@ impl Reader<'_> {
     }
 
     fn one_by_one(&self, keys: &[u64; KEYS], told: &mut Told) {
-        for (pair, key) in told.chunks_exact_mut(2).zip(keys) {
+        let (pairs, _) = told.as_chunks_mut::<2>();
+        for (pair, key) in pairs.iter_mut().zip(keys) {
             let count = self.count_of(*key);
-            pair.copy_from_slice(&[u64::from(count != 0), count]);
+            *pair = [u64::from(count != 0), count];
         }
     }
 
@@ -137,6 +138,7 @@ fn compare(to: Stdout, a: &Told, b: &Told) {
 }
 
 // ---- the words
+// They are read into lent bytes: for a `String` there could be no memory.
 
 #[derive(Debug, Clone, Copy, PartialEq, Eq)]
 enum Way {

@@ -163,6 +163,7 @@ fn replay_file(to: Stdout, file: fs::File) {
     replay(to, tell::read_text(to, file, &mut space));
 }
 
+// The path is read into lent bytes: for a `String` there could be no memory.
 fn replay_argument(rt: HostRuntime, k: usize) -> Result<(), AllocError> {
     let mut path = [0u8; 4096];
     let length = rt.arg(k, &mut path).unwrap_or(0);

@@ -34,7 +34,7 @@ pub fn say(to: Stdout, what: impl Display + Drop) {
 
 // ---- a text
 
-// Reads as far as there is room, or until a read fails.
+// Reads as far as there is room, or until a read fails. A loop, and a count: only a read says how many bytes it brought.
 fn read_all<R: Read + Drop>(mut from: R, space: &mut [u8; ROOM]) -> &[u8] {
     let mut done = 0;
     while let Ok(n @ 1..) = from.read(&mut space[done..]) {
