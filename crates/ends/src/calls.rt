@@ -4,7 +4,7 @@ use crate::{records, slices};
 use read::{Reply, State};
 use std::io::Stdout;
 use table::Answer;
-use tell::{changes, put, say, say_words, value, word};
+use tell::{apart, put, say, say_words, value, word};
 
 // How many words of each slice are lent.
 #[derive(Debug, Clone, Copy, PartialEq, Eq)]
@@ -143,7 +143,7 @@ fn show(to: Stdout, line: &[u8], state: State, lent: Lent<'_>) {
     }
     let Lent { left, right, .. } = lent;
     if let b"apart" = word(line, 0) {
-        say(to, format_args!(" -> {}", changes(left, right).count()));
+        say(to, format_args!(" -> {}", apart(left, right).words));
     }
 }
 

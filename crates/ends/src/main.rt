@@ -27,5 +27,7 @@ fn main(rt: HostRuntime) {
     let mut space = [0u8; ROOM];
     let text = tell::read_text(to, rt.stdin(), &mut space);
     let mut world = World::new();
-    tell::each_line(text, |line| world.tell(to, line));
+    for line in text.split_inclusive(|b| *b == b'\n') {
+        world.tell(to, line.strip_suffix(b"\n").unwrap_or(line));
+    }
 }

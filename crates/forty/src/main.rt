@@ -125,7 +125,7 @@ fn write(to: Stdout, told: &Told) {
 }
 
 fn compare(to: Stdout, a: &Told, b: &Told) {
-    match tell::changes(a, b).count() {
+    match tell::apart(a, b).words {
         0 => {
             say(to, "one by one and at once: ");
             write(to, b);

@@ -210,7 +210,9 @@ fn refusals(rt: HostRuntime) {
     let to = rt.stdout();
     let mut space = [0u8; ROOM];
     let text = tell::read_text(to, rt.stdin(), &mut space);
-    tell::each_line(text, |line| refused(to, line));
+    for line in text.split_inclusive(|b| *b == b'\n') {
+        refused(to, line.strip_suffix(b"\n").unwrap_or(line));
+    }
 }
 
 // The first argument names the known ends, the second the sample.

@@ -2,7 +2,7 @@
 // A text is bytes: a line that is no UTF-8 is one as any other.
 #![tactic(auto)]
 
-ghost use Rattle.std.specs.Prelude.{◌-◌};
+ghost use Rattle.std.specs.Prelude.{◌≡◌, ◌↔◌, ◌-◌, ◌<◌, ◌≤◌, length, IsTrue};
 ghost use Rattle.std.specs.Iterator.{at_most};
 
 use std::fmt::Display;
@@ -13,7 +13,7 @@ use std::ops::Range;
 pub const ROOM: usize = 400001;
 
 // Words that differ are listed up to this many; of more, their number and a digest are told.
-const LISTED: usize = 12;
+const LISTED: u64 = 12;
 
 // The largest number that ten times itself and a digit more may follow.
 const TENTH: u64 = u64::MAX / 10;
@@ -35,7 +35,9 @@ pub fn say(to: Stdout, what: impl Display + Drop) {
 // ---- a text
 
 // Reads as far as there is room, or until a read fails. A loop, and a count: only a read says how many bytes it brought.
-fn read_all<R: Read + Drop>(mut from: R, space: &mut [u8; ROOM]) -> &[u8] {
+fn read_all<R: Read + Drop>(mut from: R, space: &mut [u8; ROOM]) -> &[u8]
+    ensures { length result.now ≤ ROOM }
+{
     let mut done = 0;
     while let Ok(n @ 1..) = from.read(&mut space[done..]) {
         done += n;
@@ -44,7 +46,9 @@ fn read_all<R: Read + Drop>(mut from: R, space: &mut [u8; ROOM]) -> &[u8] {
 }
 
 // A whole text. Where there is no room for it that is said, and it has no bytes.
-pub fn read_text<R: Read + Drop>(to: Stdout, from: R, space: &mut [u8; ROOM]) -> &[u8] {
+pub fn read_text<R: Read + Drop>(to: Stdout, from: R, space: &mut [u8; ROOM]) -> &[u8]
+    ensures { length result.now < ROOM }
+{
     let text = read_all(from, space);
     if text.len() == ROOM {
         say(to, "the text is too long\n");
@@ -53,17 +57,10 @@ pub fn read_text<R: Read + Drop>(to: Stdout, from: R, space: &mut [u8; ROOM]) ->
     text
 }
 
-// Visits each line of a text, without the newline that ends it.
-pub fn each_line<F: FnMut(&[u8])>(text: &[u8], mut visit: F)
-    requires { F.IsAlwaysCallable visit }
-{
-    for line in text.split_inclusive(|b| *b == b'\n') {
-        visit(line.strip_suffix(b"\n").unwrap_or(line));
-    }
-}
-
 // What stands between two words of a line.
-pub fn is_blank(b: &u8) -> bool {
+pub fn is_blank(b: &u8) -> bool
+    ensures { IsTrue result ↔ (b.now ≡ 32) }
+{
     *b == b' '
 }
 
@@ -128,13 +125,13 @@ fn word_at(words: &[u64], i: usize) -> u64 {
 
 // The places and the words that are not as they were before.
 #[derive(Drop)]
-pub struct ChangedWords<'a> {
+struct ChangedWords<'a> {
     before: &'a [u64],
     after: &'a [u64],
     places: Range<usize>,
 }
 
-pub fn changes<'a>(before: &'a [u64], after: &'a [u64]) -> ChangedWords<'a> {
+fn changes<'a>(before: &'a [u64], after: &'a [u64]) -> ChangedWords<'a> {
     ChangedWords {
         before,
         after,
@@ -168,6 +165,20 @@ fn digest(changes: ChangedWords<'_>) -> u64 {
         .fold(0, |h, (i, x)| mix(mix(h, i as u64), x))
 }
 
+// The words that are not as they were before: how many, and a number that they make.
+#[derive(Debug, Clone, Copy, PartialEq, Eq)]
+pub struct Differing {
+    pub words: u64,
+    pub digest: u64,
+}
+
+pub fn apart(before: &[u64], after: &[u64]) -> Differing {
+    Differing {
+        words: changes(before, after).count() as u64,
+        digest: digest(changes(before, after)),
+    }
+}
+
 fn list(to: Stdout, changes: ChangedWords<'_>) {
     for (i, x) in changes {
         say(to, format_args!(" {i}:{x}"));
@@ -176,18 +187,13 @@ fn list(to: Stdout, changes: ChangedWords<'_>) {
 
 // What words became, under a name; nothing where they are as before.
 pub fn say_words(to: Stdout, name: &str, before: &[u64], after: &[u64]) {
-    match changes(before, after).count() {
+    let Differing { words, digest } = apart(before, after);
+    match words {
         0 => {}
         1..=LISTED => {
             say(to, name);
             list(to, changes(before, after));
         }
-        n => say(
-            to,
-            format_args!(
-                "{name} {n} in all, digest {}",
-                digest(changes(before, after))
-            ),
-        ),
+        _ => say(to, format_args!("{name} {words} in all, digest {digest}")),
     }
 }
