@@ -13,16 +13,16 @@ use Rattle.table.specs.Many.{told_all, look_all_rule}
 use Rattle.table.proofs.Split.{split}
 use Rattle.table.proofs.Cases.{fits_fit, used_fit, used_unfit}
 use Rattle.table.proofs.Many.{look_all_view}
-use Rattle.read.specs.declared.Verdict.{Verdict}
-use Rattle.read.specs.declared.Verdict.TheVariants.{Admitted, Refused}
+use Rattle.read.specs.Machine.{Verdict, slot_count, sized, judged, fresh}
+use Rattle.std.specs.Prelude.{Ok, Err}
 use Rattle.read.specs.declared.State.{State}
 use Rattle.read.specs.declared.Slot.{Slot}
 use Rattle.read.specs.declared.Made.{Made}
 use Rattle.read.specs.declared.Reply.{Reply}
 use Rattle.read.specs.declared.Handle.{Handle}
 use Rattle.read.specs.declared.Handle.TheVariants.{LookUp}
-use Rattle.read.specs.Machine.{slot_count, sized, judged, fresh}
-use Rattle.read.specs.Handles.{Sign, smallest, handle_signs, made_of, guarded_copy, handled, handled_by, handle_by}
+use Rattle.read.specs.declared.Sign.{Sign}
+use Rattle.read.specs.Handles.{smallest, handle_signs, made_of, guarded_copy, handled, handled_by, handle_by}
 use Rattle.read.specs.Calls.{Lent, lent, slot_at, refusal, reply_of, handle_reply, handle_rule, create_reply, create_rule, through_rule, view_rule, pair_rule, start_rule}
 use Rattle.write.specs.Call.{Create, On}
 use Rattle.write.specs.Machine.{call_on, call_rule}
@@ -32,9 +32,9 @@ use Rattle.demands.specs.Demands.{shown}
 use Rattle.demands.proofs.Refusal.Judged.{sized_lengths, lengths_sized}
 
 by_verdict : (v : Verdict) (st : State) (x : Reply) (l r g : List ℕ) →
-    ◌≡◌ {A = Lent Reply} (elim v [ Admitted ↦ lent x l r g | Refused a ↦ lent (refusal a st) l r g ]) (lent (elim v [ Admitted ↦ x | Refused a ↦ refusal a st ]) l r g)
-by_verdict Admitted st x l r g = refl
-by_verdict (Refused a) st x l r g = refl
+    ◌≡◌ {A = Lent Reply} (elim v [ Ok _ ↦ lent x l r g | Err a ↦ lent (refusal a st) l r g ]) (lent (elim v [ Ok _ ↦ x | Err a ↦ refusal a st ]) l r g)
+by_verdict (Ok _) st x l r g = refl
+by_verdict (Err a) st x l r g = refl
 
 pub one_handle : (i : ℕ) (h : Handle) (st : State) (l r g : List ℕ) → call_rule (On i h) st l r g ≡ lent (handle_rule i h l r g st) l r g
 unfolding call_rule call_on handle_rule
@@ -56,24 +56,24 @@ module _ (i j key : ℕ) (w : World) where
   -- a look up, and the copy that it is made in, by what both are judged on: words and control part; the slot's number; the slot
   abbrev made_by : Verdict → Made
   made_by u =
-      elim u [ Admitted ↦ handled w.state.control i s (LookUp j key) w.left w.right | Refused a ↦ made_of w.state.control a 0 s ]
+      elim u [ Ok _ ↦ handled w.state.control i s (LookUp j key) w.left w.right | Err a ↦ made_of w.state.control a 0 s ]
 
   abbrev reply_by : Verdict → Bool → Verdict → Reply
   reply_by v b u =
       elim v [
-        | Admitted ↦
+        | Ok _ ↦
             elim b [
               | true ↦ reply_of i (made_by u) w.state
               | false ↦ refusal answer.NoSlot w.state
             ]
-        | Refused a ↦ refusal a w.state
+        | Err a ↦ refusal a w.state
       ]
 
   abbrev shown_by : Verdict → Bool → Verdict → List ℕ
   shown_by v b u =
       elim v [
-        | Admitted ↦ elim b [ true ↦ elim u [ Admitted ↦ guarded_copy s.guards j w.left w.right | Refused a ↦ [] ] | false ↦ [] ]
-        | Refused a ↦ []
+        | Ok _ ↦ elim b [ true ↦ elim u [ Ok _ ↦ guarded_copy s.guards j w.left w.right | Err a ↦ [] ] | false ↦ [] ]
+        | Err a ↦ []
       ]
 
   -- the value is the count of the pair that is shown, and where it is refused nothing is
@@ -87,10 +87,10 @@ module _ (i j key : ℕ) (w : World) where
 
   joined_by : (v : Verdict) (b : Bool) (u : Verdict) → Joined (reply_by v b u) (shown_by v b u)
   unfolding handled_by
-  joined_by Admitted true Admitted = record { counts = refl; refused = λ n. absurd (n refl) }
-  joined_by Admitted true (Refused a) = unseen (reply_by Admitted true (Refused a)) refl
-  joined_by Admitted false u = unseen (reply_by Admitted false u) refl
-  joined_by (Refused a) b u = unseen (reply_by (Refused a) b u) refl
+  joined_by (Ok _) true (Ok _) = record { counts = refl; refused = λ n. absurd (n refl) }
+  joined_by (Ok _) true (Err a) = unseen (reply_by (Ok tt) true (Err a)) refl
+  joined_by (Ok _) false u = unseen (reply_by (Ok tt) false u) refl
+  joined_by (Err a) b u = unseen (reply_by (Err a) b u) refl
 
   -- no sign looks at the key
   any_key : (own : Bool) → handle_signs w.state.control own s (LookUp j key) ≡ handle_signs w.state.control own s (LookUp j 0)

@@ -209,7 +209,7 @@ impl World {
 
     // What a call answered, and what it changed.
     fn say_reply(&self, to: Stdout, before: &World, reply: Reply) {
-        let answer = u64::from(table::number(reply.answer));
+        let answer = u8::from(reply.answer);
         say(to, format_args!(" -> {answer} {}", reply.value));
         records::say_state(to, &before.state, &self.state);
         say_words(to, ", left", &before.left, &self.left);

@@ -1,5 +1,5 @@
 // The state's records in words: set up from a line, and told where they changed.
-use read::{Control, Due, GUARDS, Guard, Job, Link, Phase, SLOTS, Slot, State};
+use read::{Control, Due, GUARDS, Guard, Job, Phase, SLOTS, Slot, State};
 use std::fmt;
 use std::fmt::{Display, Formatter};
 use std::io::Stdout;
@@ -145,8 +145,8 @@ fn slot_of(line: &[u8]) -> Slot {
         due: due_of(word(line, 4)),
         guards: guards_of(word(line, 5)),
         link: match word(line, 6) {
-            b"to" => Link::To(value(line, 7) as usize),
-            _ => Link::Fresh,
+            b"to" => Some(value(line, 7) as usize),
+            _ => None,
         },
     }
 }
@@ -190,8 +190,8 @@ impl Display for SlotText {
             write!(f, "{}", letter(guard))?;
         }
         match self.0.link {
-            Link::Fresh => Ok(()),
-            Link::To(k) => write!(f, " to {k}"),
+            Some(k) => write!(f, " to {k}"),
+            None => Ok(()),
         }
     }
 }

@@ -9,29 +9,26 @@ use std::process::ExitCode;
 // The status of a program that the system stopped at a pipe that nobody reads any more: 128 and the signal's number.
 const CLOSED: u8 = 141;
 
-// Plays what was read, unless it fills the buffer.
-fn run(rt: &HostRuntime, buf: &[u8], n: usize, out: &mut [u8; TRANSCRIPT]) -> io::Result<()> {
-    if n >= buf.len() {
-        return Ok(());
-    }
-    let schedule = &buf[0..n];
+fn run(rt: &HostRuntime, schedule: &[u8], out: &mut [u8; TRANSCRIPT]) -> io::Result<()> {
     let played = play::lrt_play(schedule, out);
     if played.answer == 0 {
-        page::write(rt, schedule, out, played.written)
+        // No more is written than there is room, which the minimum shows.
+        page::write(rt, schedule, &out[..played.written.min(TRANSCRIPT)])
     } else {
         let flaw = format::check(schedule);
         page::refuse(rt, played.answer, flaw.place)
     }
 }
 
-// Arrays that come by reference are lent on with no proof by hand.
 fn read_and_run(
     rt: &HostRuntime,
     buf: &mut [u8; SCHEDULE],
     out: &mut [u8; TRANSCRIPT],
 ) -> io::Result<()> {
-    let n = page::read(rt, buf)?;
-    run(rt, buf, n, out)
+    match page::read(rt, buf)? {
+        Some(schedule) => run(rt, schedule, out),
+        None => Ok(()),
+    }
 }
 
 fn main(rt: HostRuntime) -> io::Result<ExitCode> {

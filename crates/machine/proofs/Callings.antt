@@ -6,11 +6,10 @@ use mathlib.Core.List.{List}
 use Rattle.table.specs.Order.{Op}
 use Rattle.table.specs.declared.Answer.{Answer}
 use Rattle.read.specs.declared.Slot.{Slot}
-use Rattle.read.specs.declared.Verdict.{Verdict}
-use Rattle.read.specs.declared.Verdict.TheVariants.{Admitted, Refused}
+use Rattle.read.specs.Machine.{Verdict, whole_control, judged}
+use Rattle.std.specs.Prelude.{Ok, Err}
 use Rattle.read.specs.declared.State.{State}
 use Rattle.read.specs.declared.Reply.{Reply}
-use Rattle.read.specs.Machine.{whole_control, judged}
 use Rattle.read.specs.Handles.{smallest}
 use Rattle.read.specs.Calls.{Lent, lent, slot_at, refusal}
 use Rattle.write.specs.declared.Moved.{Moved}
@@ -25,27 +24,27 @@ use Rattle.write.proofs.Judged.{judged_good}
 -- ---- what a state that is not refused has
 
 module _ (st : State) (l r g : List ℕ) where
-  pub judged_whole_control : {v : Verdict} → v ≡ judged st l r g → v ≡ Admitted → whole_control st.control ≡ true
+  pub judged_whole_control : {v : Verdict} → v ≡ judged st l r g → v ≡ Ok tt → whole_control st.control ≡ true
   judged_whole_control h e = whole_control_lem st.control (judged_good st l r g (sym h ∙ e)).whole
 
 -- ---- a call, by its verdict
 
 module _ (k : Call) (st : State) (l r g : List ℕ) where
   abbrev Rule : Verdict → Lent Reply
-  Rule v = elim v [ Admitted ↦ call_on k st l r g | Refused a ↦ lent (refusal a st) l r g ]
+  Rule v = elim v [ Ok _ ↦ call_on k st l r g | Err a ↦ lent (refusal a st) l r g ]
 
   module _ {v : Verdict} (h : v ≡ judged st l r g) where
-    pub call_refused : {a : Answer} {q : Reply} → v ≡ Refused a → q ≡ refusal a st → lent q l r g ≡ call_rule k st l r g
+    pub call_refused : {a : Answer} {q : Reply} → v ≡ Err a → q ≡ refusal a st → lent q l r g ≡ call_rule k st l r g
     unfolding call_rule
     call_refused e x = ap (λ (q : Reply). lent q l r g) x ∙ ap Rule (sym e ∙ h)
 
-    call_admitted : {o : Lent Reply} → v ≡ Admitted → o ≡ call_on k st l r g → o ≡ call_rule k st l r g
+    call_admitted : {o : Lent Reply} → v ≡ Ok tt → o ≡ call_on k st l r g → o ≡ call_rule k st l r g
     unfolding call_rule
     call_admitted e x = x ∙ ap Rule (sym e ∙ h)
 
 -- ---- one that is admitted
 
-module _ (st : State) (l r g : List ℕ) {v : Verdict} (j : v ≡ judged st l r g) (y : v ≡ Admitted) where
+module _ (st : State) (l r g : List ℕ) {v : Verdict} (j : v ≡ judged st l r g) (y : v ≡ Ok tt) where
   -- made at slot 0, and put back
   pub append_made :
       (os : List Op) {s : Slot} {m : Moved} {q : Reply} {l' r' g' : List ℕ} →
@@ -77,13 +76,13 @@ module _ (st : State) (l r g : List ℕ) (rule : State → List ℕ → List ℕ
     (x : n ≡ column) (h : v ≡ smallest (step_signs n st.control))
   where
     abbrev Going : Verdict → Lent Reply
-    Going v = elim v [ Admitted ↦ rule st l r g | Refused a ↦ lent (refusal a st) l r g ]
+    Going v = elim v [ Ok _ ↦ rule st l r g | Err a ↦ lent (refusal a st) l r g ]
 
     going_by : {w : Verdict} → v ≡ w → Going w ≡ going column rule st l r g
     going_by e = ap Going (sym e ∙ h ∙ ap (λ (n : ℕ). smallest (step_signs n st.control)) x)
 
-    pub going_refused : {a : Answer} {q : Reply} → v ≡ Refused a → q ≡ refusal a st → lent q l r g ≡ going column rule st l r g
+    pub going_refused : {a : Answer} {q : Reply} → v ≡ Err a → q ≡ refusal a st → lent q l r g ≡ going column rule st l r g
     going_refused e y = ap (λ (q : Reply). lent q l r g) y ∙ going_by e
 
-    pub going_admitted : {o : Lent Reply} → v ≡ Admitted → o ≡ rule st l r g → o ≡ going column rule st l r g
+    pub going_admitted : {o : Lent Reply} → v ≡ Ok tt → o ≡ rule st l r g → o ≡ going column rule st l r g
     going_admitted e y = y ∙ going_by e

@@ -101,12 +101,12 @@ fn glance(c: Control, left: &[u64], right: &[u64], log: &[u64]) -> Verdict
     ensures { result ≡ glanced c left.now right.now log.now }
 {
     if !sized(left, right, log) {
-        return Verdict::Refused(Answer::Length);
+        return Err(Answer::Length);
     }
     if both(left[0] <= MOST, both(right[0] <= MOST, whole_control(c))) {
-        return Verdict::Admitted;
+        return Ok(());
     }
-    Verdict::Refused(Answer::Broken)
+    Err(Answer::Broken)
 }
 
 // What every call on the machine is judged on.
@@ -116,13 +116,13 @@ pub(crate) fn judge(st: State, left: &[u64], right: &[u64], log: &[u64]) -> Verd
     let c = st.control;
     let v = glance(c, left, right, log);
     match v {
-        Verdict::Refused(a) => Verdict::Refused(a),
-        Verdict::Admitted => {
+        Err(a) => Err(a),
+        Ok(()) => {
             let n = c.length;
             if both(n <= first_unlawful(n, log), order::orderly(st)) {
-                Verdict::Admitted
+                Ok(())
             } else {
-                Verdict::Refused(Answer::Broken)
+                Err(Answer::Broken)
             }
         }
     }

@@ -12,7 +12,7 @@ ghost use Rattle.read.specs.Calls.{lent, refusal as refusal_rule, start_rule, ha
 ghost use Rattle.write.specs.Call.{Append, Open, Step, Run, append_one, ops_in};
 ghost use Rattle.write.specs.Machine.{call_rule};
 
-use read::{Control, Handle, Reply, SLOTS, Slot, State, Verdict};
+use read::{Control, Handle, Reply, SLOTS, Slot, State};
 use table::Answer;
 use write::{Opening, begins};
 
@@ -76,8 +76,8 @@ pub fn create(st: State, left: &[u64], right: &[u64], log: &[u64]) -> Reply
 {
     let v = judge::judge(st, left, right, log);
     match v {
-        Verdict::Refused(a) => refusal(a, st),
-        Verdict::Admitted => reads::create_reply(st),
+        Err(a) => refusal(a, st),
+        Ok(()) => reads::create_reply(st),
     }
 }
 
@@ -183,13 +183,13 @@ pub fn extend(st: State, ops: &[u64], left: &mut [u64], right: &mut [u64], log: 
 {
     let v = judge::judge(st, &left[..], &right[..], &log[..]);
     match v {
-        Verdict::Admitted => {
+        Ok(()) => {
             let c = st.control;
             let snaps = st.snapshots;
             let m = begins::extend_on(ops, c, read::slot_at(st, 0), snaps[0], left, right, log);
             writes::put_back(0, st, m)
         }
-        Verdict::Refused(a) => refusal(a, st),
+        Err(a) => refusal(a, st),
     }
 }
 

@@ -3,8 +3,8 @@ ghost use Rattle.std.specs.Prelude.{◌≡◌};
 ghost use Rattle.read.specs.Calls.{reply_of, through_guard, through_rule, handle_reply, handle_rule, create_reply};
 
 use crate::{judge, refusal, replied};
-use read::{Handle, Made, Reply, SLOTS, State, Verdict, handles, slot_at};
-use table::Answer;
+use read::{Handle, Made, Reply, SLOTS, State, handles, slot_at};
+use table::{Answer, Search};
 
 // The whole copy that a guard stands on, or a part of no words, on a state that is whole.
 fn through_guard<'a>(
@@ -23,8 +23,8 @@ fn through_guard<'a>(
     let s = slot_at(st, slot);
     let v = handles::verdict(c, slot == 0, s, Handle::LookUp(guard, 0));
     match v {
-        Verdict::Refused(_) => &left[0..0],
-        Verdict::Admitted => {
+        Err(_) => &left[0..0],
+        Ok(()) => {
             let g = s.guards;
             handles::guarded_copy(g, guard, left, right)
         }
@@ -44,8 +44,8 @@ pub(crate) fn through<'a>(
 {
     let v = judge::judge(st, left, right, log);
     match v {
-        Verdict::Refused(_) => &left[0..0],
-        Verdict::Admitted => through_guard(st, slot, guard, left, right),
+        Err(_) => &left[0..0],
+        Ok(()) => through_guard(st, slot, guard, left, right),
     }
 }
 
@@ -73,7 +73,7 @@ fn handle_reply<'a>(st: State, slot: usize, h: Handle, left: &'a [u64], right: &
         return refusal(Answer::NoSlot, st);
     }
     let c = st.control;
-    let m = handles::handle(c, slot, slot_at(st, slot), h, left, right);
+    let m = handles::handle_by(Search::Walk, c, slot, slot_at(st, slot), h, left, right);
     reply_of(slot, m, st)
 }
 
@@ -90,8 +90,8 @@ pub(crate) fn on_handle<'a>(
 {
     let v = judge::judge(st, left, right, log);
     match v {
-        Verdict::Refused(a) => refusal(a, st),
-        Verdict::Admitted => handle_reply(st, slot, h, left, right),
+        Err(a) => refusal(a, st),
+        Ok(()) => handle_reply(st, slot, h, left, right),
     }
 }
 

@@ -7,7 +7,7 @@ ghost use Rattle.write.specs.Runs.{put_back};
 ghost use Rattle.write.specs.Machine.{going, goes, going_column, going_rule, call_rule};
 
 use crate::{judge, refusal, replied, runs};
-use read::{Reply, SLOTS, State, Verdict};
+use read::{Reply, SLOTS, State};
 use write::{Moved, Opening, begins};
 
 // What was made at slot `i`, put back.
@@ -30,13 +30,13 @@ pub(crate) fn begin(o: Opening, st: State, left: &[u64], right: &[u64], log: &[u
 {
     let v = judge::judge(st, left, right, log);
     match v {
-        Verdict::Admitted => {
+        Ok(()) => {
             let c = st.control;
             let snaps = st.snapshots;
             let m = begins::open_on(o, c, read::slot_at(st, 0), snaps[0]);
             put_back(0, st, m)
         }
-        Verdict::Refused(a) => refusal(a, st),
+        Err(a) => refusal(a, st),
     }
 }
 
@@ -57,8 +57,8 @@ fn admitted(run: bool, st: State, left: &mut [u64], right: &mut [u64], log: &mut
     let c = st.control;
     let v = begins::step_verdict(column(run), c);
     match v {
-        Verdict::Admitted => runs::whole(run, st, left, right, log),
-        Verdict::Refused(a) => refusal(a, st),
+        Ok(()) => runs::whole(run, st, left, right, log),
+        Err(a) => refusal(a, st),
     }
 }
 
@@ -73,7 +73,7 @@ pub(crate) fn go(
 {
     let v = judge::judge(st, &left[..], &right[..], &log[..]);
     match v {
-        Verdict::Admitted => admitted(run, st, left, right, log),
-        Verdict::Refused(a) => refusal(a, st),
+        Ok(()) => admitted(run, st, left, right, log),
+        Err(a) => refusal(a, st),
     }
 }

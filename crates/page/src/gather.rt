@@ -1,63 +1,73 @@
-// Text that is gathered in a page from its start on. What does not fit is left out.
+// Text that is gathered in a page from its start on. What does not fit is left out. The page is fixed memory: a `BufWriter` would want
+// room on the heap, and can fail.
 ghost use Rattle.page.specs.Page.{OnPage};
 
-use itoa::Buffer;
+use std::fmt::{Display, Write};
+use std::{fmt, io};
 
-pub(crate) const SIZE: usize = 65536;
+const SIZE: usize = 65536;
 
-pub(crate) fn put(page: &mut [u8; SIZE], at: usize, byte: u8) -> usize
-    ensures { OnPage result }
-{
-    if at < SIZE {
-        page[at] = byte;
-        return at + 1;
-    }
-    SIZE
+// More than any line has.
+const LONGEST: usize = 512;
+
+#[derive(Drop)]
+pub(crate) struct Page {
+    bytes: [u8; SIZE],
+    len: usize,
+    ghost fits: { OnPage len },
 }
 
-// Blanks up to a column.
-pub(crate) fn blanks(page: &mut [u8; SIZE], at: usize, column: usize) -> usize
-    requires { OnPage at }
-    ensures { OnPage result }
-{
-    let mut n = at;
-    while n < column {
-        if n >= SIZE {
-            return n;
+impl Page {
+    pub(crate) fn new() -> Self {
+        Page {
+            bytes: [0; SIZE],
+            len: 0,
         }
-        page[n] = b' ';
-        n += 1;
     }
-    n
+
+    pub(crate) fn len(&self) -> usize
+        ensures { OnPage result }
+    {
+        self.len
+    }
+
+    // Whether another line might not fit.
+    pub(crate) fn is_full(&self) -> bool {
+        self.len > SIZE - LONGEST
+    }
+
+    // Writes what was gathered, and begins again.
+    pub(crate) fn flush<P: Print>(&mut self, to: &P) -> io::Result<()> {
+        to.write_all(&self.bytes[..self.len])?;
+        self.len = 0;
+        Ok(())
+    }
+
+    fn put(&mut self, byte: u8) {
+        if self.len < SIZE {
+            self.bytes[self.len] = byte;
+            self.len += 1;
+        }
+    }
+
+    // Blanks up to a column.
+    pub(crate) fn blanks_to(&mut self, column: usize) {
+        for _ in self.len..column {
+            self.put(b' ');
+        }
+    }
+
+    // What `write!` calls. It answers nothing, since a page takes every text: `write_str` below never fails.
+    pub(crate) fn write_fmt<D: Display + Drop>(&mut self, text: D) {
+        let _ = self.write(text);
+    }
 }
 
-pub(crate) fn text(page: &mut [u8; SIZE], at: usize, s: &[u8]) -> usize
-    requires { OnPage at }
-    ensures { OnPage result }
-{
-    let mut n = at;
-    let mut i = 0;
-    while i < s.len() {
-        n = put(page, n, s[i]);
-        i += 1;
+impl Write for Page {
+    fn write_str(&mut self, text: &str) -> fmt::Result {
+        for byte in text.bytes() {
+            self.put(byte);
+        }
+        Ok(())
     }
-    n
-}
-
-fn minus(a: usize, b: usize) -> usize {
-    if a > b {
-        return a - b;
-    }
-    0
-}
-
-// A number that ends at a column, or as soon after it as its digits allow.
-pub(crate) fn number(page: &mut [u8; SIZE], at: usize, value: u64, column: usize) -> usize
-    requires { OnPage at }
-    ensures { OnPage result }
-{
-    let mut buffer = Buffer::new();
-    let digits = buffer.format(value).as_bytes();
-    let n = blanks(page, at, minus(column, digits.len()));
-    text(page, n, digits)
 }

@@ -1,10 +1,90 @@
 // What is said on standard error.
-use crate::rows::row;
-use std::io;
+use crate::arguments::{PATH, name};
+use std::env::FillError;
+use std::fmt::{Display, Formatter};
 use std::io::{Error, ErrorKind};
+use std::{fmt, io};
 
-// The smallest number that refuses a file.
-const MARK: u64 = 21;
+// The system's numbers of what can be wrong with FILE before it is opened: it is not given, and it is too long.
+const NOT_GIVEN: i32 = 22;
+
+const TOO_LONG: i32 = 36;
+
+// Why nothing was played, or nothing written.
+#[derive(Clone, Copy)]
+pub(crate) enum Problem {
+    // The first argument is no command.
+    Usage,
+    // FILE is not given, or too long.
+    Path(Error),
+    // The file cannot be read.
+    File(Error),
+    // It has more records than fit.
+    TooLong,
+    Refused(Refusal),
+    // Standard output cannot be written.
+    Output(Error),
+}
+
+impl From<FillError> for Problem {
+    fn from(error: FillError) -> Problem {
+        Problem::Path(Error::from_raw_os_error(match error {
+            FillError::NotPresent => NOT_GIVEN,
+            FillError::TooLong => TOO_LONG,
+        }))
+    }
+}
+
+// What refuses a file, by its number, which may be any and is printed, and at which record.
+#[derive(Clone, Copy)]
+pub(crate) struct Refusal {
+    pub answer: u64,
+    pub place: usize,
+}
+
+#[derive(Clone, Copy)]
+enum Reason {
+    Mark,
+    Version,
+    Torn,
+    Call,
+    Room,
+}
+
+// The output is never too short, since it has room for every record that the schedule has.
+impl From<u64> for Reason {
+    fn from(answer: u64) -> Reason {
+        match answer {
+            21 => Reason::Mark,
+            22 => Reason::Version,
+            23 => Reason::Torn,
+            24 => Reason::Call,
+            _ => Reason::Room,
+        }
+    }
+}
+
+impl Display for Reason {
+    fn fmt<W: fmt::Write>(&self, f: &mut Formatter<W>) -> fmt::Result {
+        f.write_str(match *self {
+            Reason::Mark => "mark (a schedule begins with LRT and a version), before",
+            Reason::Version => "version (only 1 is known), before",
+            Reason::Torn => "torn record (a record has 20 bytes), at",
+            Reason::Call => "a call not 1 to 15, or a batch whose appends are not there, at",
+            Reason::Room => "output too short, at",
+        })
+    }
+}
+
+// Records count from 1; a mark or a version is wrong before the first.
+impl Display for Refusal {
+    fn fmt<W: fmt::Write>(&self, f: &mut Formatter<W>) -> fmt::Result {
+        let answer = self.answer;
+        let reason = Reason::from(answer);
+        let record = self.place.wrapping_add(1);
+        write!(f, "refused with {answer}, {reason} record {record}")
+    }
+}
 
 // Whether something could be written is passed over, unless nobody reads it any more: then the program ends.
 pub(crate) fn unless_closed(written: io::Result<()>) -> io::Result<()> {
@@ -14,58 +94,40 @@ pub(crate) fn unless_closed(written: io::Result<()>) -> io::Result<()> {
     }
 }
 
-pub(crate) fn say(rt: &HostRuntime, text: &[u8]) -> io::Result<()> {
-    unless_closed(rt.stderr().write_all(text))
-}
-
-fn say_number(rt: &HostRuntime, number: u64) -> io::Result<()> {
-    unless_closed(rt.stderr().print(number))
+// A line on something with a name. The name need not be UTF-8, so it is no argument of the format.
+fn say<D: Display + Drop>(rt: &HostRuntime, name: &[u8], text: D) -> io::Result<()> {
+    let to = rt.stderr();
+    unless_closed(to.print("lrt: "))?;
+    unless_closed(to.write_all(name))?;
+    unless_closed(to.println(format_args!(": {text}")))
 }
 
 // An error's text with no number of the system's behind it.
 fn words(printed: &str) -> &str {
-    match printed.rsplit_once(" (os error ") {
-        Some((words, _)) => words,
-        None => printed,
-    }
+    printed
+        .rsplit_once(" (os error ")
+        .map_or(printed, |(words, _)| words)
 }
 
-// What went wrong with a file, in the system's words.
-pub(crate) fn fail(rt: &HostRuntime, name: &[u8], error: Error) -> io::Result<()> {
+// What went wrong, in the system's words.
+fn say_error(rt: &HostRuntime, name: &[u8], error: Error) -> io::Result<()> {
     let printed = format!(in rt.alloc(); "{error}")?;
-    begin(rt, name)?;
-    say(rt, b": ")?;
-    say(rt, words(printed.as_str()).as_bytes())?;
-    say(rt, b"\n")
+    say(rt, name, words(printed.as_str()))
 }
 
-fn begin(rt: &HostRuntime, name: &[u8]) -> io::Result<()> {
-    say(rt, b"lrt: ")?;
-    say(rt, name)
-}
-
-// What refuses a file, by its number from 21 on, and where. The output is never too short, since it has room for every record
-// that the schedule has.
-fn reason(rt: &HostRuntime, answer: u64) -> io::Result<()> {
-    let rows =
-        b", mark (a schedule begins with LRT and a version), before record |, version (only 1 is known), before record |, torn record (a record has 20 bytes), at record |, a call not 1 to 15, or a batch whose appends are not there, at record |, output too short, at record ";
-    say(rt, row(rows, answer.wrapping_sub(MARK)))
-}
-
-// The line for a file that is refused. Records count from 1; a mark or a version is wrong before the first.
-pub(crate) fn refuse(rt: &HostRuntime, name: &[u8], answer: u64, place: usize) -> io::Result<()> {
-    begin(rt, name)?;
-    say(rt, b": refused with ")?;
-    say_number(rt, answer)?;
-    reason(rt, answer)?;
-    say_number(rt, (place as u64).wrapping_add(1))?;
-    say(rt, b"\n")
-}
-
-pub(crate) fn too_long(rt: &HostRuntime, name: &[u8]) -> io::Result<()> {
-    begin(rt, name)?;
-    say(
-        rt,
-        b": over 100,000 records, which is all that this program holds\n",
-    )
+pub(crate) fn tell(rt: &HostRuntime, problem: Problem) -> io::Result<()> {
+    let mut room = [0u8; PATH];
+    let name = name(rt, &mut room);
+    match problem {
+        Problem::Usage => say(rt, b"wanted", "play FILE, or show FILE"),
+        Problem::Path(error) => say_error(rt, b"FILE", error),
+        Problem::File(error) => say_error(rt, name, error),
+        Problem::TooLong => say(
+            rt,
+            name,
+            "over 100,000 records, which is all that this program holds",
+        ),
+        Problem::Refused(refusal) => say(rt, name, refusal),
+        Problem::Output(error) => say_error(rt, b"standard output", error),
+    }
 }

@@ -9,9 +9,8 @@ use Rattle.read.specs.declared.Control.{Control}
 use Rattle.read.specs.declared.Handle.TheVariants.{Release}
 use Rattle.read.specs.declared.Made.{Made}
 use Rattle.read.specs.declared.Slot.{Slot}
-use Rattle.read.specs.declared.Verdict.{Verdict}
-use Rattle.read.specs.declared.Verdict.TheVariants.{Admitted, Refused}
-use Rattle.read.specs.Machine.{is_open}
+use Rattle.read.specs.Machine.{Verdict, is_open}
+use Rattle.std.specs.Prelude.{Ok, Err}
 use Rattle.read.specs.Admission.{column, entry}
 use Rattle.read.specs.Handles.{sign, smallest, made_of, released, handled, handle_on, handle_by, handled_by}
 use Rattle.place.specs.declared.Released.{Released}
@@ -35,15 +34,15 @@ verdict e j s =
 
 module _ (c : Control) (n j : ℕ) (s : Slot) (l r : List ℕ) (admitted : entry c.phase (column (Release j) (eqb n 0)) ≡ 0) where
   abbrev answered : Verdict → Made
-  answered v = elim v [ Admitted ↦ handled c n s (Release j) l r | Refused a ↦ made_of c a 0 s ]
+  answered v = elim v [ Ok _ ↦ handled c n s (Release j) l r | Err a ↦ made_of c a 0 s ]
 
   abbrev ruled : Verdict → Released
-  ruled v = elim v [ Admitted ↦ record { answer = Done; slot = released j s } | Refused a ↦ record { answer = a; slot = s } ]
+  ruled v = elim v [ Ok _ ↦ record { answer = Done; slot = released j s } | Err a ↦ record { answer = a; slot = s } ]
 
   by_verdict : (v : Verdict) → answered v ≡ made c (ruled v)
   unfolding handled_by
-  by_verdict Admitted = refl
-  by_verdict (Refused a) = refl
+  by_verdict (Ok _) = refl
+  by_verdict (Err a) = refl
 
   pub release_as_handle : handle_on c n s (Release j) l r ≡ made c (release_rule j s)
   unfolding handle_by release_rule smallest

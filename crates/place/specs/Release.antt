@@ -1,10 +1,10 @@
 -- A release on one slot record: refused with nothing changed, or made.
-use Rattle.std.specs.Prelude.{ℕ, not, List, [], ◌∷◌}
+use Rattle.std.specs.Prelude.{ℕ, not, List, [], ◌∷◌, Ok, Err}
 use Rattle.table.specs.declared.Answer.TheVariants.{Done, NoSlot, NoGuard}
 use Rattle.read.specs.declared.Slot.{Slot}
-use Rattle.read.specs.declared.Verdict.TheVariants.{Admitted, Refused}
 use Rattle.read.specs.Machine.{is_open}
-use Rattle.read.specs.Handles.{Sign, sign, smallest, released}
+use Rattle.read.specs.declared.Sign.{Sign}
+use Rattle.read.specs.Handles.{sign, smallest, released}
 use Rattle.place.specs.declared.Released.{Released}
 
 -- a free record has no handle; a guard that is not open is none
@@ -15,4 +15,4 @@ release_signs guard s = sign NoSlot (not s.used) ∷ sign NoGuard (not (is_open 
 unfoldable pub release_rule : ℕ → Slot → Released
 release_rule guard s =
     elim (smallest (release_signs guard s))
-    [ Admitted ↦ record { answer = Done; slot = released guard s } | Refused a ↦ record { answer = a; slot = s } ]
+    [ Ok _ ↦ record { answer = Done; slot = released guard s } | Err a ↦ record { answer = a; slot = s } ]

@@ -14,10 +14,10 @@ use Rattle.table.proofs.Split.{under}
 use Rattle.table.specs.declared.Search.TheVariants.{Walk}
 use Rattle.read.specs.declared.Control.{Control}
 use Rattle.read.specs.declared.Slot.{Slot}
-use Rattle.read.specs.declared.Verdict.{Verdict}
-use Rattle.read.specs.declared.Verdict.TheVariants.{Admitted, Refused}
-use Rattle.read.specs.Machine.{is_gone}
-use Rattle.read.specs.Handles.{Sign, sign, smallest}
+use Rattle.read.specs.Machine.{Verdict, is_gone}
+use Rattle.std.specs.Prelude.{Ok, Err}
+use Rattle.read.specs.declared.Sign.{Sign}
+use Rattle.read.specs.Handles.{sign, smallest}
 use Rattle.read.specs.Calls.{Lent, lent}
 use Rattle.write.specs.declared.Moved.{Moved}
 use Rattle.write.specs.Call.{ops_in}
@@ -90,7 +90,7 @@ module _ (c : Control) (t : Slot) (e : ℕ) (l r g : List ℕ) where
       ∙ go (is_gone c.phase) (drop 2 (writer_signs 7 true (crowds (length os) c) c t))
     where
       by : Verdict → Lent Moved
-      by v = elim v [ Admitted ↦ appended Walk c.first os c t e l r g | Refused a ↦ lent (refused a c t e) l r g ]
+      by v = elim v [ Ok _ ↦ appended Walk c.first os c t e l r g | Err a ↦ lent (refused a c t e) l r g ]
 
       go : (gone : Bool) (rest : List Sign) →
           by (smallest (sign answer.Gone gone ∷ sign answer.Operation true ∷ rest)) ≡ lent (refused (reason gone) c t e) l r g

@@ -21,11 +21,10 @@ use Rattle.read.specs.declared.Job.{Job}
 use Rattle.read.specs.declared.Job.TheVariants.{Publish, Try, TakeFirst, TakeSecond}
 use Rattle.read.specs.declared.State.{State}
 use Rattle.read.specs.declared.Reply.{Reply}
-use Rattle.read.specs.declared.Verdict.{Verdict}
-use Rattle.read.specs.declared.Verdict.TheVariants.{Admitted, Refused}
-use Rattle.read.specs.Machine.{slot_total, no_slot, underway, is_gone, place}
+use Rattle.read.specs.Machine.{Verdict, slot_total, no_slot, underway, is_gone, place}
+use Rattle.std.specs.Prelude.{Ok, Err}
 use Rattle.read.specs.Admission.{entry, not_now}
-use Rattle.read.specs.Handles.{freed, bit, smallest}
+use Rattle.read.specs.Handles.{freed, bit, smallest, given}
 use Rattle.read.specs.Calls.{Lent, lent, refusal}
 use Rattle.write.specs.declared.Moved.{Moved}
 use Rattle.table.specs.Order.{Op}
@@ -45,7 +44,6 @@ use Rattle.play.specs.Turns.{meant, members_of, is_going, is_running, halt, halt
 use Rattle.play.proofs.Run.{run_from, run_starts, run_over, run_unrolls}
 use Rattle.play.proofs.Turned.{read_slot}
 use Rattle.read.proofs.Cases.{state_of}
-use Rattle.read.specs.Handles.{given}
 use Rattle.read.proofs.Phases.{idle_cases, underway_stays}
 use Rattle.write.proofs.Count.{left}
 use Rattle.write.proofs.Refusals.{lifted_same}
@@ -120,7 +118,7 @@ unhalted Gone j held z = absurd (omega arith)
 
 -- 12 and 13, their columns in the table of admissions, hold the same
 abbrev verdict_of : Bool → Bool → Verdict
-verdict_of gone busy = given gone answer.Gone (given (eqb (not_now (not busy)) 6) answer.NotNow Admitted)
+verdict_of gone busy = given gone answer.Gone (given (eqb (not_now (not busy)) 6) answer.NotNow (Ok tt))
 
 -- what is due of a step, or of a run that has made n
 abbrev pub due : Bool → ℕ → State → List ℕ → List ℕ → List ℕ → Lent Reply
@@ -132,7 +130,7 @@ module _ (st : State) (l r g : List ℕ) where
       (verdict : smallest (step_signs column st.control) ≡ verdict_of (is_gone st.control.phase) (underway st.control.phase))
     where
       abbrev judged : Verdict → Lent Reply
-      judged v = elim v [ Admitted ↦ rule st l r g | Refused a ↦ lent (refusal a st) l r g ]
+      judged v = elim v [ Ok _ ↦ rule st l r g | Err a ↦ lent (refusal a st) l r g ]
 
       going_underway : underway st.control.phase ≡ true → going column rule st l r g ≡ rule st l r g
       going_underway u =

@@ -6,7 +6,7 @@ use native.Mathlib.Omega.{arith}
 use lib.ListN.{length, drop, replicate, length-drop, length-map}
 use Rattle.table.specs.Copy.{words}
 use Rattle.read.specs.declared.State.{State}
-use Rattle.read.specs.declared.Verdict.TheVariants.{Admitted}
+use Rattle.std.specs.Prelude.{Ok}
 use Rattle.read.specs.Machine.{log_words, fresh, judged}
 use Rattle.read.specs.Calls.{Lent}
 use Rattle.write.specs.Call.{Call}
@@ -55,5 +55,5 @@ module _ {st : State} (e : st ≡ fresh) where
   pub fresh_world_lem : machine st (replicate words 0) (replicate words 0) (replicate log_words 0) ≡ fresh_world
   fresh_world_lem = ap (λ (st : State). machine st (replicate words 0) (replicate words 0) (replicate log_words 0)) e
 
-  pub fresh_whole : judged st (replicate words 0) (replicate words 0) (replicate log_words 0) ≡ Admitted
-  fresh_whole = subst (λ (w : World). judged w.state w.left w.right w.log ≡ Admitted) (sym fresh_world_lem) (sound_judged sound_fresh)
+  pub fresh_whole : judged st (replicate words 0) (replicate words 0) (replicate log_words 0) ≡ Ok tt
+  fresh_whole = subst (λ (w : World). judged w.state w.left w.right w.log ≡ Ok tt) (sym fresh_world_lem) (sound_judged sound_fresh)

@@ -11,7 +11,7 @@ use Rattle.read.specs.declared.Control.{Control}
 use Rattle.read.specs.declared.Slot.{Slot}
 use Rattle.read.specs.declared.State.{State}
 use Rattle.read.specs.declared.Reply.{Reply}
-use Rattle.read.specs.declared.Verdict.TheVariants.{Admitted}
+use Rattle.std.specs.Prelude.{Ok}
 use Rattle.read.specs.Machine.{slot_count, no_slot, judged}
 use Rattle.read.specs.Calls.{Lent, lent}
 use Rattle.write.specs.declared.Moved.{Moved}
@@ -71,7 +71,7 @@ pub record Plays (s out₀ whole : List ℕ) (end : World) (out : List ℕ) (fro
     pub ends : (rest s from (machine (state_of c ss es) l r g)).world ≡ end
 
 -- a machine that is whole, and whose copies are tidy
-pub sound_judged : (st : State) (l r g : List ℕ) → judged st l r g ≡ Admitted → Tidy l → Tidy r → length st.slots ≡ slot_count →
+pub sound_judged : (st : State) (l r g : List ℕ) → judged st l r g ≡ Ok tt → Tidy l → Tidy r → length st.slots ≡ slot_count →
     length st.snapshots ≡ slot_count → Sound st l r g
 sound_judged st l r g h a b x y =
     let d = judged_good st l r g h in

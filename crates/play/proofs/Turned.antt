@@ -19,10 +19,9 @@ use Rattle.read.specs.declared.Made.{Made}
 use Rattle.read.specs.declared.Slot.{Slot}
 use Rattle.read.specs.declared.State.{State}
 use Rattle.read.specs.declared.Reply.{Reply}
-use Rattle.read.specs.declared.Verdict.{Verdict}
-use Rattle.read.specs.declared.Verdict.TheVariants.{Admitted, Refused}
+use Rattle.read.specs.Machine.{Verdict, slot_total, slot_count, no_slot, new_slot, behind}
+use Rattle.std.specs.Prelude.{Ok, Err}
 use Rattle.read.proofs.Cases.{state_of, reply_back, reply_past, reply_in, create_room}
-use Rattle.read.specs.Machine.{slot_total, slot_count, no_slot, new_slot, behind}
 use Rattle.read.specs.Handles.{smallest, made_of, handle_on, create_signs, create_on}
 use Rattle.read.specs.Calls.{Lent, lent, slot_at, refusal, reply_of, handle_reply}
 use Rattle.write.specs.declared.Moved.{Moved}
@@ -91,12 +90,12 @@ module _ (st : State) where
 
     module _ (os : List Op) where
       abbrev appends : Verdict → Bool → ℕ → Lent Moved
-      appends v early e = elim v [ Admitted ↦ appended Walk early os c first e l r g | Refused a ↦ lent (refused a c first e) l r g ]
+      appends v early e = elim v [ Ok _ ↦ appended Walk early os c first e l r g | Err a ↦ lent (refused a c first e) l r g ]
 
       append_kept : (v : Verdict) (early : Bool) → lift 0 st (appends v early (snap_at st 0)) ≡ put_slot 0 st (appends v early 0)
-      append_kept Admitted true = kept 0 _ _ _ _ _ _ _
-      append_kept Admitted false = kept 0 _ _ _ _ _ _ _
-      append_kept (Refused a) early = kept 0 _ _ _ _ _ _ _
+      append_kept (Ok _) true = kept 0 _ _ _ _ _ _ _
+      append_kept (Ok _) false = kept 0 _ _ _ _ _ _ _
+      append_kept (Err a) early = kept 0 _ _ _ _ _ _ _
 
     flush_kept :
         (b : Bool) →
@@ -114,10 +113,10 @@ module _ (st : State) where
 
     open_kept :
         (o : Opening) (v : Verdict) →
-        lift 0 st (lent (elim v [ Admitted ↦ opened o c first (snap_at st 0) | Refused a ↦ refused a c first (snap_at st 0) ]) l r g)
-        ≡ put_slot 0 st (lent (elim v [ Admitted ↦ opened o c first 0 | Refused a ↦ refused a c first 0 ]) l r g)
-    open_kept o Admitted = opened_kept o
-    open_kept o (Refused a) = kept 0 _ _ _ _ _ _ _
+        lift 0 st (lent (elim v [ Ok _ ↦ opened o c first (snap_at st 0) | Err a ↦ refused a c first (snap_at st 0) ]) l r g)
+        ≡ put_slot 0 st (lent (elim v [ Ok _ ↦ opened o c first 0 | Err a ↦ refused a c first 0 ]) l r g)
+    open_kept o (Ok _) = opened_kept o
+    open_kept o (Err a) = kept 0 _ _ _ _ _ _ _
 
     -- ---- create, and a call on a handle
 
@@ -128,17 +127,17 @@ module _ (st : State) where
     abbrev creates : Verdict → Slot → Made
     creates v s =
         elim v [
-          | Admitted ↦ record { answer = answer.Done; value = c.free; slot = new_slot; free = behind c.free s.link }
-          | Refused a ↦ made_of c a 0 s
+          | Ok _ ↦ record { answer = answer.Done; value = c.free; slot = new_slot; free = behind c.free s.link }
+          | Err a ↦ made_of c a 0 s
         ]
 
     created :
         (v : Verdict) → smallest (create_signs c) ≡ v →
         (let i = c.free in lent (reply_of i (creates v (slot_at st i)) st) l r g ≡ put (within i) (moved_by c (creates v (slot_at st (within i)))))
     unfolding slot_count
-    created Admitted e =
-        ap (λ (i : ℕ). put i (moved_by c (creates Admitted (slot_at st i)))) (sym (within_here c.free (create_room c e)))
-    created (Refused a) e =
+    created (Ok _) e =
+        ap (λ (i : ℕ). put i (moved_by c (creates (Ok tt) (slot_at st i)))) (sym (within_here c.free (create_room c e)))
+    created (Err a) e =
         ap (λ (x : Reply). lent x l r g) (reply_back c.free a 0 st) ∙ sym (unslot (within c.free) a)
 
     module _ (i : ℕ) (h : Handle) where

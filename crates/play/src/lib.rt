@@ -4,8 +4,7 @@
 mod schedule;
 mod turns;
 
-ghost use Rattle.std.specs.Prelude.{◌≡◌, ◌++◌, ◌≤◌, length, drop};
-ghost use Rattle.read.specs.declared.Verdict.TheVariants.{Admitted};
+ghost use Rattle.std.specs.Prelude.{◌≡◌, ◌++◌, ◌≤◌, length, drop, Ok};
 ghost use Rattle.read.specs.Machine.{judged};
 ghost use Rattle.table.specs.Order.{Tidy};
 ghost use Rattle.read.specs.Calls.{lent};
@@ -47,7 +46,7 @@ fn play_on(
     right: &mut [u64],
     log: &mut [u64],
 ) -> Reached
-    requires { (judged st left.old right.old log.old ≡ Admitted) × Tidy left.old × Tidy right.old × (length (transcript_rule (calls_in s.now) (machine st left.old right.old log.old)) ≤ length out.old) }
+    requires { (judged st left.old right.old log.old ≡ Ok tt) × Tidy left.old × Tidy right.old × (length (transcript_rule (calls_in s.now) (machine st left.old right.old log.old)) ≤ length out.old) }
     ensures { (lent result left.new right.new log.new ≡ reached s.now (machine st left.old right.old log.old)) × (out.new ≡ (let w = transcript_rule (calls_in s.now) (machine st left.old right.old log.old) in w ++ drop (length w) out.old)) }
 {
     let mut c = st.control;

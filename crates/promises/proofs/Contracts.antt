@@ -58,7 +58,7 @@ Bytes = Slice 8
 abbrev pub Ref : Type 0
 Ref = Bor (List ℕ)
 
-abbrev pub ref : List ℕ → Ref
+abbrev pub ref : {A : Type 0} → A → Bor A
 ref w = record { ref_ptr = (0, 0); now = w }
 
 -- the same, to be changed: it has a name besides, under which what it refers to is kept, and no contract says which

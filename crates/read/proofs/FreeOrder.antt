@@ -1,6 +1,9 @@
 -- The order in which free slots are handed out, on a list of slots: one turn of a count and of a walk, which slots a walk meets, and what
 -- a store does to them.
 use Rattle.std.proofs.Common.{◌≡◌, ℕ, zero, suc, ◌+◌, ◌-◌, ◌<◌, ◌≤◌, Bool, true, false, not, ◌&&◌, ltb, ◌≢◌, ◌⊎◌, List, [], ◌∷◌, length, get_or, set, sym, refl, ap, ◌∙◌, subst, inl, inr, ⊎_elim, arith, length-set, get_or-set_other, get_or-set_same, ltb-true, le-ltb, lt-ltb, eqb-true}
+use Rattle.std.specs.Prelude.{count_by}
+use Rattle.std.proofs.Common.{cond}
+use Rattle.std.proofs.lemmas.List.Recursion.{is_count_by}
 use native.Mathlib.Decide.{ℕ_discrete}
 use borrow.Author.Tests.{not-true}
 use Rattle.table.proofs.Booleans.{both, clash}
@@ -38,6 +41,19 @@ module _ (n : ℕ) (ss : List Slot) where
       split (at ss n).used
       (λ u. omega (arith, free_kept u, ap vacancy u))
       (λ u. omega (arith, free_more u, ap vacancy u))
+
+-- the count goes from the last slot down, and from the first one up it is the same
+free_cons : (n : ℕ) (s : Slot) (ss : List Slot) → free_below (suc n) (s ∷ ss) ≡ vacancy s.used + free_below n ss
+free_cons zero s ss = free_turn 0 (s ∷ ss) ∙ ap (λ k. vacancy s.used + k) (free_none (s ∷ ss) ∙ sym (free_none ss))
+free_cons (suc n) s ss = omega (arith, free_turn (suc n) (s ∷ ss), free_cons n s ss, free_turn n ss)
+
+counts : (b : Bool) (n : ℕ) → vacancy b + n ≡ cond (not b) (1 + n) n
+counts true n = omega arith
+counts false n = refl
+
+pub free_counted : (ss : List Slot) → free_below (length ss) ss ≡ count_by (λ s. not s.used) ss
+free_counted =
+    is_count_by (λ ss. free_below (length ss) ss) (λ s. not s.used) (free_none []) (λ s ss. free_cons (length ss) s ss ∙ counts s.used _)
 
 -- none is free, so each is in use; and back
 pub all_used : (n : ℕ) (ss : List Slot) → free_below n ss ≡ 0 → (i : ℕ) → i < n → (at ss i).used ≡ true

@@ -10,7 +10,7 @@ use Rattle.read.specs.declared.Slot.{Slot}
 use Rattle.read.specs.declared.Control.{Control}
 use Rattle.read.specs.declared.Handle.{Handle}
 use Rattle.read.specs.declared.Handle.TheVariants.{Drop, Enter, GoOn, Release, LookUp, WasDropped}
-use Rattle.read.specs.declared.Verdict.TheVariants.{Admitted, Refused}
+use Rattle.std.specs.Prelude.{Ok, Err}
 use Rattle.read.specs.Machine.{stands_right}
 use Rattle.read.specs.Handles.{smallest, handle_signs, made_of, guarded_copy, handled, handled_by, handle_on, handle_by}
 
@@ -30,4 +30,4 @@ module _ (how : Search) (c : Control) (i : ℕ) (s : Slot) (l r : List ℕ) (x :
   unfolding handle_by
   handle_rising h =
       λ k.
-      elim (smallest (handle_signs c (eqb i 0) s h)) [ Admitted ↦ handled_rising h k | Refused a ↦ made_of c a 0 s ]
+      elim (smallest (handle_signs c (eqb i 0) s h)) [ Ok _ ↦ handled_rising h k | Err a ↦ made_of c a 0 s ]

@@ -1,5 +1,5 @@
 -- The reader's calls on the whole machine: judged on all of it, and changing one slot and which is handed out next.
-use Rattle.std.specs.Prelude.{ℕ, true, false, List, [], ◌==◌, nat_lt, slice_index_or, slice_set}
+use Rattle.std.specs.Prelude.{ℕ, true, false, List, [], ◌==◌, nat_lt, slice_index_or, slice_set, Ok, Err}
 use Rattle.table.specs.Copy.{zeros, used_rule, look_rule}
 use Rattle.table.specs.declared.Answer.{Answer}
 use Rattle.table.specs.declared.Answer.TheVariants as answer
@@ -7,7 +7,6 @@ use Rattle.read.specs.declared.Slot.{Slot}
 use Rattle.read.specs.declared.State.{State}
 use Rattle.read.specs.declared.Handle.{Handle}
 use Rattle.read.specs.declared.Handle.TheVariants.{LookUp}
-use Rattle.read.specs.declared.Verdict.TheVariants.{Admitted, Refused}
 use Rattle.read.specs.declared.Made.{Made}
 use Rattle.read.specs.declared.Reply.{Reply}
 use Rattle.read.specs.Machine.{slot_count, no_slot, with_free, sized, judged, fresh}
@@ -51,7 +50,7 @@ handle_reply i h l r st =
 
 unfoldable pub handle_rule : ℕ → Handle → List ℕ → List ℕ → List ℕ → State → Reply
 handle_rule i h l r g st =
-    elim (judged st l r g) [ Admitted ↦ handle_reply i h l r st | Refused a ↦ refusal a st ]
+    elim (judged st l r g) [ Ok _ ↦ handle_reply i h l r st | Err a ↦ refusal a st ]
 
 -- ---- create
 
@@ -59,7 +58,7 @@ abbrev pub create_reply : State → Reply
 create_reply st = let i = st.control.free in reply_of i (create_on st.control (slot_at st i)) st
 
 unfoldable pub create_rule : List ℕ → List ℕ → List ℕ → State → Reply
-create_rule l r g st = elim (judged st l r g) [ Admitted ↦ create_reply st | Refused a ↦ refusal a st ]
+create_rule l r g st = elim (judged st l r g) [ Ok _ ↦ create_reply st | Err a ↦ refusal a st ]
 
 -- ---- a guard's view
 
@@ -68,11 +67,11 @@ abbrev pub through_guard : ℕ → ℕ → List ℕ → List ℕ → State → L
 through_guard i j l r st =
     let v = smallest (handle_signs st.control (i == 0) (slot_at st i) (LookUp j 0)) in
     elim (nat_lt i slot_count)
-    [ true ↦ elim v [ Admitted ↦ guarded_copy (slot_at st i).guards j l r | Refused a ↦ [] ] | false ↦ [] ]
+    [ true ↦ elim v [ Ok _ ↦ guarded_copy (slot_at st i).guards j l r | Err a ↦ [] ] | false ↦ [] ]
 
 unfoldable pub through_rule : ℕ → ℕ → List ℕ → List ℕ → List ℕ → State → List ℕ
 through_rule i j l r g st =
-    elim (judged st l r g) [ Admitted ↦ through_guard i j l r st | Refused a ↦ [] ]
+    elim (judged st l r g) [ Ok _ ↦ through_guard i j l r st | Err a ↦ [] ]
 
 -- its used part
 abbrev pub view_rule : ℕ → ℕ → List ℕ → List ℕ → List ℕ → State → List ℕ

@@ -1,40 +1,33 @@
 -- What create and a call on a handle do: to one slot, judged by the control part and that slot. Create and drop change besides which
 -- slot is handed out next.
-use Rattle.std.specs.Prelude.{ℕ, ◌+◌, ◌%◌, ◌^◌, Bool, true, false, not, ◌&&◌, ◌||◌, List, [], ◌∷◌, ◌==◌, nat_le, nat_lt, slice_index}
+use Rattle.std.specs.Prelude.{ℕ, ◌+◌, ◌%◌, ◌^◌, Bool, true, false, not, ◌&&◌, ◌||◌, List, [], ◌∷◌, ◌==◌, nat_le, nat_lt, slice_index, Some, Ok, Err}
 use Rattle.table.specs.Copy.{look_rule}
 use Rattle.table.specs.declared.Answer.{Answer}
 use Rattle.table.specs.declared.Answer.TheVariants as answer
 use Rattle.read.specs.declared.Due.{Due}
 use Rattle.read.specs.declared.Due.TheVariants.{Nothing, Load, Restore}
 use Rattle.read.specs.declared.Guard.{Guard}
-use Rattle.read.specs.declared.Link.TheVariants.{To}
+use Rattle.read.specs.declared.Sign.{Sign}
 use Rattle.read.specs.declared.Slot.{Slot}
 use Rattle.read.specs.declared.Control.{Control}
 use Rattle.read.specs.declared.Handle.{Handle}
 use Rattle.read.specs.declared.Handle.TheVariants.{Drop, Enter, GoOn, Release, LookUp, WasDropped}
-use Rattle.read.specs.declared.Verdict.{Verdict}
-use Rattle.read.specs.declared.Verdict.TheVariants.{Admitted, Refused}
+use Rattle.read.specs.Machine.{Verdict, slot_count, shut, open_on, with_use, with_reading, new_slot, behind, is_open, stands_right, put_guard, first_guard, any_open, all_open, is_due, is_load}
 use Rattle.read.specs.declared.Made.{Made}
-use Rattle.read.specs.Machine.{slot_count, shut, open_on, with_use, with_reading, new_slot, behind, is_open, stands_right, put_guard, first_guard, any_open, all_open, is_due, is_load}
 use Rattle.read.specs.Admission.{handle_number, guard_named, column, create_column, entry}
 
 -- ---- which refusal is given
-
--- what speaks against a call: a refusal, and whether it applies
-pub record Sign : Type 0 where
-  pub answer : Answer
-  pub applies : Bool
 
 abbrev pub sign : Answer → Bool → Sign
 sign a b = record { answer = a; applies = b }
 
 -- a sign before those that were judged
 abbrev pub given : Bool → Answer → Verdict → Verdict
-given b a v = elim b [ true ↦ Refused a | false ↦ v ]
+given b a v = elim b [ true ↦ Err a | false ↦ v ]
 
 -- the first that applies; those of a call stand in the order of their numbers, so it is the smallest
 unfoldable pub smallest : List Sign → Verdict
-smallest [] = Admitted
+smallest [] = Ok tt
 smallest (x ∷ xs) = given x.applies x.answer (smallest xs)
 
 -- of the call n: enter or drop with a step due; go on with none
@@ -86,7 +79,7 @@ with_due e d s = with_reading e s.guards d s
 
 -- the slot is free, and the one that was first, k, comes behind it; all else stays
 abbrev pub freed : ℕ → Slot → Slot
-freed k s = with_use false (To k) s
+freed k s = with_use false (Some k) s
 
 -- the lowest free guard opens on a side
 abbrev pub guarded : Bool → Slot → Slot
@@ -143,7 +136,7 @@ handled = handled_by look_rule
 -- a call on the handle in slot i: refused with nothing changed, or made
 unfoldable pub handle_by : (ℕ → List ℕ → List ℕ) → Control → ℕ → Slot → Handle → List ℕ → List ℕ → Made
 handle_by look c i s h l r =
-    elim (smallest (handle_signs c (i == 0) s h)) [ Admitted ↦ handled_by look c i s h l r | Refused a ↦ made_of c a 0 s ]
+    elim (smallest (handle_signs c (i == 0) s h)) [ Ok _ ↦ handled_by look c i s h l r | Err a ↦ made_of c a 0 s ]
 
 abbrev pub handle_on : Control → ℕ → Slot → Handle → List ℕ → List ℕ → Made
 handle_on = handle_by look_rule
@@ -152,6 +145,6 @@ handle_on = handle_by look_rule
 unfoldable pub create_on : Control → Slot → Made
 create_on c s =
     elim (smallest (create_signs c)) [
-      | Admitted ↦ record { answer = answer.Done; value = c.free; slot = new_slot; free = behind c.free s.link }
-      | Refused a ↦ made_of c a 0 s
+      | Ok _ ↦ record { answer = answer.Done; value = c.free; slot = new_slot; free = behind c.free s.link }
+      | Err a ↦ made_of c a 0 s
     ]

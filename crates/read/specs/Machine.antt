@@ -1,13 +1,12 @@
 -- The machine's parts: sizes, the fresh state, the writer's phases, and what makes a state broken.
-use Rattle.std.specs.Prelude.{ℕ, zero, suc, ◌+◌, ◌-◌, ◌*◌, Bool, true, false, not, ◌&&◌, ◌||◌, ltb, List, ◌∷◌, length, replicate, ◌==◌, nat_le, nat_lt, slice_index, slice_index_or, slice_set}
+use Rattle.std.specs.Prelude.{ℕ, zero, suc, ◌+◌, ◌-◌, ◌*◌, Bool, true, false, not, ◌&&◌, ◌||◌, ltb, List, ◌∷◌, length, replicate, ◌==◌, nat_le, nat_lt, slice_index, slice_index_or, slice_set, Option, None, Some, Result, ⊤, Ok, Err}
 use Rattle.table.specs.Seek.{seek}
 use Rattle.table.specs.Copy.{pairs, words, entries, lawful}
+use Rattle.table.specs.declared.Answer.{Answer}
 use Rattle.table.specs.declared.Answer.TheVariants.{Length, Broken}
 use Rattle.read.specs.declared.Due.{Due}
 use Rattle.read.specs.declared.Due.TheVariants.{Nothing, Load, Restore}
 use Rattle.read.specs.declared.Guard.{Guard}
-use Rattle.read.specs.declared.Link.{Link}
-use Rattle.read.specs.declared.Link.TheVariants.{Fresh, To}
 use Rattle.read.specs.declared.Slot.{Slot}
 use Rattle.read.specs.declared.Phase.{Phase}
 use Rattle.read.specs.declared.Phase.TheVariants.{Idle, Begin, Poll, Copy, Drain, Keep, Swap, Snap, Null, Lock, LastSnap, LastPoll, Finish, Gone}
@@ -15,8 +14,6 @@ use Rattle.read.specs.declared.Job.{Job}
 use Rattle.read.specs.declared.Job.TheVariants.{Publish}
 use Rattle.read.specs.declared.Control.{Control}
 use Rattle.read.specs.declared.State.{State}
-use Rattle.read.specs.declared.Verdict.{Verdict}
-use Rattle.read.specs.declared.Verdict.TheVariants.{Admitted, Refused}
 
 -- ---- sizes
 
@@ -85,10 +82,10 @@ is_load Restore = false
 
 -- a free slot of a fresh machine
 abbrev pub no_slot : Slot
-no_slot = record { used = false; epoch = 0; guards = no_guards; due = Nothing; link = Fresh }
+no_slot = record { used = false; epoch = 0; guards = no_guards; due = Nothing; link = None }
 
 -- in use or free, and what comes behind it; the rest stays
-abbrev pub with_use : Bool → Link → Slot → Slot
+abbrev pub with_use : Bool → Option ℕ → Slot → Slot
 with_use u k s = record { used = u; epoch = s.epoch; guards = s.guards; due = s.due; link = k }
 
 -- epoch, guards and what is due; the rest stays
@@ -97,14 +94,14 @@ with_reading e gs d s = record { used = s.used; epoch = e; guards = gs; due = d;
 
 -- a new handle
 abbrev pub new_slot : Slot
-new_slot = with_use true Fresh no_slot
+new_slot = with_use true None no_slot
 
 -- ---- the order in which free slots are handed out
 
 -- what comes behind slot i: the slot that was first when it was freed; and behind one never used, the next number
-abbrev pub behind : ℕ → Link → ℕ
-behind i Fresh = suc i
-behind i (To k) = k
+abbrev pub behind : ℕ → Option ℕ → ℕ
+behind i None = suc i
+behind i (Some k) = k
 
 -- how many of the slots below n are free
 unfoldable pub free_below : ℕ → List Slot → ℕ
@@ -206,13 +203,17 @@ whole_control c =
     && (nat_le c.swapped c.length
     && (in_range c c.phase && (same c.lock (locks c.phase) && same c.null (nulls c.phase))))
 
+-- what is said of a call: admitted, Ok, or what refuses it
+abbrev pub Verdict : Type 0
+Verdict = Result ⊤ Answer
+
 -- lengths, entry counts and the control part: all but the walks over the log and over the free slots
 unfoldable pub glanced : Control → List ℕ → List ℕ → List ℕ → Verdict
 glanced c l r g =
     elim (sized l r g) [
       | true ↦
-          elim (nat_le (entries l) pairs && (nat_le (entries r) pairs && whole_control c)) [ true ↦ Admitted | false ↦ Refused Broken ]
-      | false ↦ Refused Length
+          elim (nat_le (entries l) pairs && (nat_le (entries r) pairs && whole_control c)) [ true ↦ Ok tt | false ↦ Err Broken ]
+      | false ↦ Err Length
     ]
 
 -- what every call is judged on: the same, each logged operation, and the order of the free slots
@@ -220,8 +221,8 @@ unfoldable pub judged : State → List ℕ → List ℕ → List ℕ → Verdict
 judged st l r g =
     let n = st.control.length in
     elim (glanced st.control l r g) [
-      | Admitted ↦ elim (nat_le n (first_unlawful n g) && orderly st) [ true ↦ Admitted | false ↦ Refused Broken ]
-      | Refused a ↦ Refused a
+      | Ok _ ↦ elim (nat_le n (first_unlawful n g) && orderly st) [ true ↦ Ok tt | false ↦ Err Broken ]
+      | Err a ↦ Err a
     ]
 
 -- ---- the fresh machine

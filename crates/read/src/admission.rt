@@ -1,11 +1,11 @@
 // Which call each phase of the writer admits.
 ghost use Rattle.std.specs.Prelude.{◌≡◌, ◌<◌, ◌≤◌};
-ghost use Rattle.read.specs.Admission.{handle_number, guard_named, column_by, entry as entry_rule};
+ghost use Rattle.read.specs.Admission.{handle_number, column as column_rule, entry as entry_rule};
 ghost use Rattle.read.specs.Machine.{row as row_rule, locks as locks_rule};
 
 use crate::{Handle, Phase};
 
-// What the entries say: not now, locked.
+// What the entries say: not now, locked. Digits and no enum: an entry is read out of a word as it stands, and compared with one.
 pub const NOT_NOW: u8 = 6;
 
 pub const LOCKED: u8 = 7;
@@ -30,7 +30,7 @@ const ADMITS: [u64; 14] = [
     0o00000006666666000000,
 ];
 
-// A phase by its row.
+// A phase by its row, which is a place in the table.
 pub fn row(p: Phase) -> usize
     ensures { result ≡ row_rule p }
 {
@@ -56,16 +56,15 @@ pub fn row(p: Phase) -> usize
 pub fn entry(p: Phase, column: usize) -> u8
     ensures { result ≡ entry_rule p column }
 {
-    let i = row(p);
-    let digits = ADMITS[i];
+    let digits = ADMITS[row(p)];
     if column < 20 {
         return ((digits >> (57 - 3 * column)) % 8) as u8;
     }
     (digits % 8) as u8
 }
 
-// A call on a handle by its number in a schedule.
-pub(crate) fn number(h: Handle) -> usize
+// A call on a handle by its number in a schedule, which is a place in the table.
+fn number(h: Handle) -> usize
     ensures { (result ≡ handle_number h) × (2 ≤ result) × (result < 8) }
 {
     match h {
@@ -78,25 +77,11 @@ pub(crate) fn number(h: Handle) -> usize
     }
 }
 
-// The guard that it names, 0 where it names none.
-pub(crate) fn guard_named(h: Handle) -> usize
-    ensures { result ≡ guard_named h }
+// The column of a call on a handle; `own`: on slot 0.
+pub(crate) fn column(h: Handle, own: bool) -> usize
+    ensures { result ≡ column_rule h own }
 {
-    match h {
-        Handle::Drop => 0,
-        Handle::Enter => 0,
-        Handle::GoOn => 0,
-        Handle::Release(j) => j,
-        Handle::LookUp(j, _) => j,
-        Handle::WasDropped => 0,
-    }
-}
-
-// The column of a call on a handle, by its number; `own`: on slot 0.
-pub(crate) fn column(n: usize, own: bool) -> usize
-    requires { (2 ≤ n) × (n < 8) }
-    ensures { result ≡ column_by n own }
-{
+    let n = number(h);
     if own { n + 12 } else { n - 1 }
 }
 
@@ -104,20 +89,8 @@ pub(crate) fn column(n: usize, own: bool) -> usize
 pub fn locks(p: Phase) -> bool
     ensures { result ≡ locks_rule p }
 {
-    match p {
-        Phase::Idle => false,
-        Phase::Begin => false,
-        Phase::Poll(_) => true,
-        Phase::Copy => true,
-        Phase::Drain => true,
-        Phase::Keep(_) => true,
-        Phase::Swap => true,
-        Phase::Snap(_) => true,
-        Phase::Null => false,
-        Phase::Lock => false,
-        Phase::LastSnap(_) => true,
-        Phase::LastPoll(_) => true,
-        Phase::Finish => true,
-        Phase::Gone => false,
-    }
+    !matches!(
+        p,
+        Phase::Idle | Phase::Begin | Phase::Null | Phase::Lock | Phase::Gone
+    )
 }

@@ -1,126 +1,91 @@
 // A call on a handle, on the control part and the handle's own slot; and create, on the slot that is first.
 ghost use Rattle.std.specs.Prelude.{◌≡◌, not, ◌&&◌, slice_index};
-ghost use Rattle.read.specs.Machine.{is_load, all_open};
+ghost use Rattle.read.specs.Admission.{handle_number, guard_named};
 ghost use Rattle.table.specs.Copy.{look_by};
-ghost use Rattle.read.specs.Handles.{mistimed as mistimed_rule, leaves_guards, lacks_guard, lacks_room, given as given_rule, smallest, handle_signs, copy_of, guarded_copy, bit as bit_rule, handled_by, handle_by, handle_on, create_signs, create_on};
+ghost use Rattle.read.specs.Handles.{mistimed as mistimed_rule, leaves_guards, lacks_guard, lacks_room, sign, smallest as smallest_rule, handle_signs, guarded_copy, handled_by, handle_by, create_signs, create_on};
 
 use crate::{
-    Control, Due, GUARDS, Guard, Handle, Made, SLOTS, Slot, Verdict, admission, guards, order,
-    truth,
+    Control, Due, GUARDS, Guard, Handle, Made, SLOTS, Sign, Slot, Verdict, admission, guards,
+    order, truth,
 };
 use table::{Answer, Search};
-
-// The calls by their numbers in a schedule.
-const DROP: usize = 2;
-
-const ENTER: usize = 3;
-
-const GO_ON: usize = 4;
-
-const RELEASE: usize = 5;
-
-const LOOK_UP: usize = 6;
 
 // The column of create in the table of admissions.
 const CREATE: usize = 0;
 
-// ---- what speaks against a call, by its number
+// ---- what speaks against a call
 
 // Enter or drop with a step due, or go on with none.
-fn mistimed(n: usize, d: Due) -> bool
-    ensures { result ≡ mistimed_rule n d }
+fn mistimed(h: Handle, d: Due) -> bool
+    ensures { result ≡ mistimed_rule (handle_number h) d }
 {
-    if n == GO_ON {
-        return !guards::is_due(d);
+    match h {
+        Handle::Drop | Handle::Enter => guards::is_due(d),
+        Handle::GoOn => !guards::is_due(d),
+        _ => false,
     }
-    if n < GO_ON {
-        return guards::is_due(d);
-    }
-    false
 }
 
-fn leaves_guards(n: usize, g: [Guard; GUARDS]) -> bool
-    ensures { result ≡ leaves_guards n g }
+fn leaves_guards(h: Handle, g: [Guard; GUARDS]) -> bool
+    ensures { result ≡ leaves_guards (handle_number h) g }
 {
-    if n == DROP {
-        return guards::any_open(g);
-    }
-    false
+    h == Handle::Drop && guards::any_open(g)
 }
 
-fn lacks_guard(n: usize, j: usize, g: [Guard; GUARDS]) -> bool
-    ensures { result ≡ lacks_guard n j g }
+fn lacks_guard(h: Handle, g: [Guard; GUARDS]) -> bool
+    ensures { result ≡ lacks_guard (handle_number h) (guard_named h) g }
 {
-    if truth::either(n == RELEASE, n == LOOK_UP) {
-        return !guards::is_open(g, j);
+    match h {
+        Handle::Release(j) | Handle::LookUp(j, _) => !guards::is_open(g, j),
+        _ => false,
     }
-    false
 }
 
-// A load that is due and would open a fifth guard.
-fn fifth(null: bool, s: Slot) -> bool
-    ensures { result ≡ (is_load s.due && (not null && all_open s.guards)) }
+// Enter with four guards open, or a load that is due and would open a fifth.
+fn lacks_room(h: Handle, null: bool, s: Slot) -> bool
+    ensures { result ≡ lacks_room (handle_number h) null s }
 {
-    let d = s.due;
-    let g = s.guards;
-    if guards::is_load(d) {
-        if !null {
-            return guards::all_open(g);
+    match h {
+        Handle::Enter => guards::all_open(s.guards),
+        Handle::GoOn => guards::is_load(s.due) && !null && guards::all_open(s.guards),
+        _ => false,
+    }
+}
+
+pub fn sign(answer: Answer, applies: bool) -> Sign
+    ensures { result ≡ sign answer applies }
+{
+    Sign { answer, applies }
+}
+
+// The first of the signs that applies. Those of a call stand in the order of their numbers, so that it is the smallest.
+pub fn smallest(signs: &[Sign]) -> Verdict
+    ensures { result ≡ smallest_rule signs.now }
+{
+    for sign in signs {
+        if sign.applies {
+            return Err(sign.answer);
         }
     }
-    false
+    Ok(())
 }
 
-fn lacks_room(n: usize, null: bool, s: Slot) -> bool
-    ensures { result ≡ lacks_room n null s }
-{
-    let g = s.guards;
-    if n == ENTER {
-        return guards::all_open(g);
-    }
-    if n == GO_ON {
-        return fifth(null, s);
-    }
-    false
-}
-
-// A sign before those that were judged.
-pub fn given(b: bool, a: Answer, v: Verdict) -> Verdict
-    ensures { result ≡ given_rule b a v }
-{
-    if b { Verdict::Refused(a) } else { v }
-}
-
-// What speaks against a call; `own`: on slot 0. The smallest number is given.
+// What speaks against a call; `own`: on slot 0.
 pub fn verdict(c: Control, own: bool, s: Slot, h: Handle) -> Verdict
-    ensures { result ≡ smallest (handle_signs c own s h) }
+    ensures { result ≡ smallest_rule (handle_signs c own s h) }
 {
-    let p = c.phase;
-    let d = s.due;
-    let g = s.guards;
-    let n = admission::number(h);
-    let j = admission::guard_named(h);
-    let e = admission::entry(p, admission::column(n, own));
-    let v = given(
-        lacks_room(n, c.null, s),
-        Answer::FourGuards,
-        Verdict::Admitted,
-    );
-    let v = given(lacks_guard(n, j, g), Answer::NoGuard, v);
-    let v = given(leaves_guards(n, g), Answer::GuardsOpen, v);
-    let v = given(e == admission::LOCKED, Answer::Locked, v);
-    let v = given(
-        truth::either(e == admission::NOT_NOW, mistimed(n, d)),
-        Answer::NotNow,
-        v,
-    );
-    given(!s.used, Answer::NoSlot, v)
-}
-
-fn bit(b: bool) -> u64
-    ensures { result ≡ bit_rule b }
-{
-    if b { 1 } else { 0 }
+    let e = admission::entry(c.phase, admission::column(h, own));
+    smallest(&[
+        sign(Answer::NoSlot, !s.used),
+        sign(
+            Answer::NotNow,
+            e == admission::NOT_NOW || mistimed(h, s.due),
+        ),
+        sign(Answer::Locked, e == admission::LOCKED),
+        sign(Answer::GuardsOpen, leaves_guards(h, s.guards)),
+        sign(Answer::NoGuard, lacks_guard(h, s.guards)),
+        sign(Answer::FourGuards, lacks_room(h, c.null, s)),
+    ])
 }
 
 // The copy that guard `j` stands on.
@@ -132,24 +97,22 @@ pub fn guarded_copy<'a>(
 ) -> &'a [u64]
     ensures { result.now ≡ guarded_copy g j left.now right.now }
 {
-    if j < GUARDS {
-        let x = g[j];
-        if x.right {
-            return right;
-        }
+    if j < GUARDS && g[j].right {
+        right
+    } else {
+        left
     }
-    left
 }
 
 // The count of a key in a copy, 0 where it is absent.
 fn count(how: Search, w: &[u64], key: u64) -> u64
     ensures { result ≡ slice_index (look_by how key w.now) 1 }
 {
-    let pair = table::look_up_by(how, w, key);
-    if 1 < pair.len() { pair[1] } else { 0 }
+    table::look_up_by(how, w, key).get(1).copied().unwrap_or(0)
 }
 
 // What an admitted call does on the handle in slot `i`; one that is dropped is handed out next.
+#[tactic(auto, unfolding(crate::specs::Handles::handled_by))]
 fn act<'a>(
     how: Search,
     c: Control,
@@ -162,34 +125,25 @@ fn act<'a>(
     ensures { result ≡ handled_by (look_by how) c i s h left.now right.now }
 {
     match h {
-        Handle::Drop => {
-            let t = guards::freed(c.free, s);
-            Made {
-                answer: Answer::Done,
-                value: 0,
-                slot: t,
-                free: i,
-            }
-        }
+        Handle::Drop => Made {
+            answer: Answer::Done,
+            value: 0,
+            slot: guards::freed(c.free, s),
+            free: i,
+        },
         Handle::Enter => guards::entered(c, s),
         Handle::GoOn => guards::went_on(c, s),
-        Handle::Release(j) => {
-            let t = guards::released(j, s);
-            guards::made_of(c, Answer::Done, 0, t)
-        }
+        Handle::Release(j) => guards::made_of(c, Answer::Done, 0, guards::released(j, s)),
         Handle::LookUp(j, key) => {
-            let g = s.guards;
-            let n = count(how, guarded_copy(g, j, left, right), key);
+            let n = count(how, guarded_copy(s.guards, j, left, right), key);
             guards::made_of(c, Answer::Done, n, s)
         }
-        Handle::WasDropped => {
-            let n = bit(c.null);
-            guards::made_of(c, Answer::Done, n, s)
-        }
+        Handle::WasDropped => guards::made_of(c, Answer::Done, u64::from(c.null), s),
     }
 }
 
 // A call on the handle in slot `i`, by how a key is searched: refused with nothing changed, or made.
+#[tactic(auto, unfolding(crate::specs::Handles::handle_by))]
 pub fn handle_by<'a>(
     how: Search,
     c: Control,
@@ -201,59 +155,40 @@ pub fn handle_by<'a>(
 ) -> Made
     ensures { result ≡ handle_by (look_by how) c i s h left.now right.now }
 {
-    let v = verdict(c, i == 0, s, h);
-    match v {
-        Verdict::Refused(a) => guards::made_of(c, a, 0, s),
-        Verdict::Admitted => act(how, c, i, s, h, left, right),
+    match verdict(c, i == 0, s, h) {
+        Err(a) => guards::made_of(c, a, 0, s),
+        Ok(()) => act(how, c, i, s, h, left, right),
     }
-}
-
-// A call on the handle in slot `i`: refused with nothing changed, or made.
-pub fn handle<'a>(
-    c: Control,
-    i: usize,
-    s: Slot,
-    h: Handle,
-    left: &'a [u64],
-    right: &'a [u64],
-) -> Made
-    ensures { result ≡ handle_on c i s h left.now right.now }
-{
-    handle_by(Search::Walk, c, i, s, h, left, right)
 }
 
 // ---- create
 
 // What speaks against a create.
+#[tactic(auto, unfolding(crate::specs::Machine::slot_count))]
 fn create_verdict(c: Control) -> Verdict
-    ensures { result ≡ smallest (create_signs c) }
+    ensures { result ≡ smallest_rule (create_signs c) }
 {
-    let p = c.phase;
-    let v = given(SLOTS <= c.free, Answer::SlotsFull, Verdict::Admitted);
-    given(
-        admission::entry(p, CREATE) == admission::LOCKED,
-        Answer::Locked,
-        v,
-    )
+    smallest(&[
+        sign(
+            Answer::Locked,
+            admission::entry(c.phase, CREATE) == admission::LOCKED,
+        ),
+        sign(Answer::SlotsFull, SLOTS <= c.free),
+    ])
 }
 
 // A create: slot `c.free`, which is `s`, gets a new handle, and the one behind it is first; or refused with nothing changed.
+#[tactic(auto, using(crate::proofs::Cases::create_room), unfolding(crate::specs::Handles::create_on))]
 pub fn create(c: Control, s: Slot) -> Made
     ensures { result ≡ create_on c s }
 {
-    let v = create_verdict(c);
-    match v {
-        Verdict::Refused(a) => guards::made_of(c, a, 0, s),
-        Verdict::Admitted => {
-            let i = c.free;
-            let k = s.link;
-            let t = guards::new_slot();
-            Made {
-                answer: Answer::Done,
-                value: i as u64,
-                slot: t,
-                free: order::behind(i, k),
-            }
-        }
+    match create_verdict(c) {
+        Err(a) => guards::made_of(c, a, 0, s),
+        Ok(()) => Made {
+            answer: Answer::Done,
+            value: c.free as u64,
+            slot: guards::new_slot(),
+            free: order::behind(c.free, s.link),
+        },
     }
 }

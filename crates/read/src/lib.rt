@@ -1,6 +1,6 @@
 // The reader's side: the state, handles with their epochs and guards, and what a guard shows.
 // A call stands on the control part and one slot, by value, for whoever holds a state that is known to be whole; `machine` has the calls
-// that are given a whole state.
+// that are given a whole state. The two copies come one by one, as a caller lends them: a struct would be made and taken apart at each call.
 #![tactic(auto)]
 
 pub mod admission;
@@ -32,29 +32,24 @@ pub enum Due {
     Restore,
 }
 
-// A guard, on the right copy or on the left.
+// A guard, on the right copy or on the left. No Option: a lent state may have a shut guard that names the right copy, and `machine` hands
+// it back as it is.
 #[derive(Debug, Clone, Copy, PartialEq, Eq)]
 pub struct Guard {
     pub opened: bool,
     pub right: bool,
 }
 
-// What comes behind a free slot in the order in which they are handed out: the next number, if it was never used; and else the slot that
-// was first when it was freed, or the number of slots, if none was.
-#[derive(Debug, Clone, Copy, PartialEq, Eq)]
-pub enum Link {
-    Fresh,
-    To(usize),
-}
-
-// A handle's own record. The small fields stand together, so that it is 40 bytes long.
+// A handle's own record. The small fields stand together, so that it is 40 bytes long. In the order in which free slots are handed out
+// there comes behind a slot that was never used the next number; and behind one that was freed `link`, the slot that was first then, or
+// the number of slots, if none was.
 #[derive(Debug, Clone, Copy, PartialEq, Eq)]
 pub struct Slot {
     pub used: bool,
     pub due: Due,
     pub epoch: u64,
     pub guards: [Guard; GUARDS],
-    pub link: Link,
+    pub link: Option<usize>,
 }
 
 // What a publish is part of.
@@ -120,11 +115,15 @@ pub enum Handle {
     WasDropped,
 }
 
+// What speaks against a call: a refusal, and whether it applies.
 #[derive(Debug, Clone, Copy, PartialEq, Eq)]
-pub enum Verdict {
-    Admitted,
-    Refused(Answer),
+pub struct Sign {
+    pub answer: Answer,
+    pub applies: bool,
 }
+
+// What a call is judged to be: admitted, or refused with an answer.
+pub type Verdict = Result<(), Answer>;
 
 // What create or a call on a handle makes of its slot, and which one is handed out next.
 #[derive(Debug, Clone, Copy, PartialEq, Eq)]
@@ -143,29 +142,27 @@ pub struct Reply {
 }
 
 // The fresh machine: slot 0 is the writer's own handle, and the pointer is on the left.
+#[tactic(auto, unfolding(crate::specs::Machine::slot_count))]
 pub fn fresh_state() -> State
     ensures { result ≡ fresh }
 {
-    let control = Control {
-        right: false,
-        null: false,
-        lock: false,
-        first: true,
-        second: true,
-        phase: Phase::Idle,
-        job: Job::Publish,
-        length: 0,
-        swapped: 0,
-        free: 1,
-    };
-    let free = guards::no_slot();
-    let own = guards::new_slot();
-    let mut slots = [free; SLOTS];
-    slots[0] = own;
+    let mut slots = [guards::no_slot(); SLOTS];
+    slots[0] = guards::new_slot();
     State {
-        control: control,
-        slots: slots,
-        snapshots: [0u64; SLOTS],
+        control: Control {
+            right: false,
+            null: false,
+            lock: false,
+            first: true,
+            second: true,
+            phase: Phase::Idle,
+            job: Job::Publish,
+            length: 0,
+            swapped: 0,
+            free: 1,
+        },
+        slots,
+        snapshots: [0; SLOTS],
     }
 }
 
@@ -173,9 +170,9 @@ pub fn fresh_state() -> State
 pub fn slot_at(st: State, slot: usize) -> Slot
     ensures { result ≡ slot_at st slot }
 {
-    if SLOTS <= slot {
-        return guards::no_slot();
+    if slot < SLOTS {
+        st.slots[slot]
+    } else {
+        guards::no_slot()
     }
-    let slots = st.slots;
-    slots[slot]
 }

@@ -2,33 +2,23 @@
 ghost use Rattle.std.specs.Prelude.{◌≡◌, ◌<◌};
 ghost use Rattle.read.specs.Machine.{slot_count, behind as behind_rule, free_below, walk as walk_rule, orderly as orderly_rule};
 
-use crate::{Link, SLOTS, Slot, State};
+use crate::{SLOTS, Slot, State};
 
 // What comes behind slot `i`.
-pub(crate) fn behind(i: usize, k: Link) -> usize
+#[tactic(auto, unfolding(crate::specs::Machine::slot_count))]
+pub(crate) fn behind(i: usize, link: Option<usize>) -> usize
     requires { i < slot_count }
-    ensures { result ≡ behind_rule i k }
+    ensures { result ≡ behind_rule i link }
 {
-    match k {
-        Link::Fresh => i + 1,
-        Link::To(j) => j,
-    }
+    link.unwrap_or(i + 1)
 }
 
 // How many slots are free.
+#[tactic(auto, using(crate::proofs::FreeOrder::free_counted), unfolding(crate::specs::Machine::slot_count))]
 fn count(slots: [Slot; SLOTS]) -> usize
     ensures { result ≡ free_below slot_count slots }
 {
-    let mut n = 0;
-    let mut i = 0;
-    while i < SLOTS {
-        let s = slots[i];
-        if !s.used {
-            n += 1;
-        }
-        i += 1;
-    }
-    n
+    slots.iter().filter(|s| !s.used).count()
 }
 
 // From slot `first` on `n` free slots come, one behind the other, and then the end.
@@ -36,27 +26,19 @@ fn walk(n: usize, slots: [Slot; SLOTS], first: usize) -> bool
     ensures { result ≡ walk_rule n slots first }
 {
     let mut k = first;
-    let mut left = n;
-    while 0 < left {
-        if SLOTS <= k {
+    for _ in 0..n {
+        if SLOTS <= k || slots[k].used {
             return false;
         }
-        let s = slots[k];
-        if s.used {
-            return false;
-        }
-        let l = s.link;
-        k = behind(k, l);
-        left -= 1;
+        k = behind(k, slots[k].link);
     }
     k == SLOTS
 }
 
 // All free slots come, each once.
+#[tactic(auto, unfolding(crate::specs::Machine::orderly))]
 pub fn orderly(st: State) -> bool
     ensures { result ≡ orderly_rule st }
 {
-    let c = st.control;
-    let slots = st.slots;
-    walk(count(slots), slots, c.free)
+    walk(count(st.slots), st.slots, st.control.free)
 }

@@ -11,8 +11,7 @@ use borrow.Author.Tests.{ltb-true, leb-true, eqb-true, lt-ltb, le-ltb, le-leb, e
 use Rattle.table.specs.declared.Answer.TheVariants.{Done, Operation}
 use Rattle.table.specs.declared.Search.{Search}
 use Rattle.table.specs.declared.Search.TheVariants.{Walk, Halve}
-use Rattle.table.specs.Copy.{pairs, entries, spill, key_at, count_at, passes, pair_of, place_of, present, halved, has_key, find_by, pair_by, place_by, present_by, grown, inserted, removed}
-use Rattle.table.specs.Copy.{added, added_by, dropped, dropped_by, zeros, applied, applied_by, lawful, fitness, fits, Fit, Holds, apply_rule, apply_by, look_rule, look_by}
+use Rattle.table.specs.Copy.{pairs, entries, spill, key_at, count_at, passes, pair_of, place_of, present, halved, has_key, find_by, pair_by, place_by, present_by, grown, inserted, removed, added, added_by, dropped, dropped_by, zeros, applied, applied_by, lawful, fitness, fits, Fit, Holds, apply_rule, apply_by, look_rule, look_by}
 use Rattle.table.specs.Order.{Rising}
 use Rattle.table.proofs.Booleans.{both, clash}
 use Rattle.table.proofs.Split.{split, under}

@@ -8,9 +8,8 @@ use Rattle.table.proofs.Seek.{seek_before, seek_none}
 use Rattle.table.proofs.Booleans.{both}
 use Rattle.read.specs.declared.Control.{Control}
 use Rattle.read.specs.declared.State.{State}
-use Rattle.read.specs.declared.Verdict.{Verdict}
-use Rattle.read.specs.declared.Verdict.TheVariants.{Admitted, Refused}
-use Rattle.read.specs.Machine.{log_words, lawful_at, first_unlawful, sized, whole_control, orderly, glanced, judged}
+use Rattle.read.specs.Machine.{Verdict, log_words, lawful_at, first_unlawful, sized, whole_control, orderly, glanced, judged}
+use Rattle.std.specs.Prelude.{Ok, Err}
 use Rattle.read.proofs.Verdicts.{refused_not}
 use Rattle.write.proofs.Control.{Whole, control_whole, whole_control_lem}
 use Rattle.write.proofs.Words.{Kept, Words}
@@ -30,13 +29,13 @@ good_fit kept {l = l} {r = r} h =
       words = record { left = kept.fit l w.left; right = kept.fit r w.right; log = w.log; lawfully = w.lawfully };
     }
 
-tested : (b : Bool) (v : Verdict) (a : Answer) → elim b [ true ↦ v | false ↦ Refused a ] ≡ Admitted → (b ≡ true) × (v ≡ Admitted)
+tested : (b : Bool) (v : Verdict) (a : Answer) → ◌≡◌ {A = Verdict} (elim b [ true ↦ v | false ↦ Err a ]) (Ok tt) → (b ≡ true) × (v ≡ Ok tt)
 tested true v a e = (refl, e)
 tested false v a e = refused_not e
 
-passed_on : (v x : Verdict) → elim v [ Admitted ↦ x | Refused a ↦ Refused a ] ≡ Admitted → (v ≡ Admitted) × (x ≡ Admitted)
-passed_on Admitted x e = (refl, e)
-passed_on (Refused a) x e = refused_not e
+passed_on : (v x : Verdict) → ◌≡◌ {A = Verdict} (elim v [ Ok _ ↦ x | Err a ↦ Err a ]) (Ok tt) → (v ≡ Ok tt) × (x ≡ Ok tt)
+passed_on (Ok _) x e = (refl, e)
+passed_on (Err a) x e = refused_not e
 
 module _ (c : Control) (l r g : List ℕ) where
   good_sized : Good Fit c l r g → sized l r g ≡ true
@@ -45,7 +44,7 @@ module _ (c : Control) (l r g : List ℕ) where
       eq-eqb (length l) words h.words.left.sized i
       && (eq-eqb (length r) words h.words.right.sized i && eq-eqb (length g) log_words h.words.log i)
 
-  good_glanced : Good Fit c l r g → glanced c l r g ≡ Admitted
+  good_glanced : Good Fit c l r g → glanced c l r g ≡ Ok tt
   unfolding glanced
   good_glanced h =
       let e : (leb (entries l) pairs && (leb (entries r) pairs && whole_control c)) ≡ true =
@@ -57,11 +56,11 @@ module _ (c : Control) (l r g : List ℕ) where
   good_lawful h = seek_none (λ i. not (lawful_at g i)) c.length (λ i b. ap not (h.words.lawfully i b))
 
   -- what is seen at a glance, and that each logged operation is as its kind asks
-  glanced_good : glanced c l r g ≡ Admitted → c.length ≤ first_unlawful c.length g → Good Fit c l r g
+  glanced_good : glanced c l r g ≡ Ok tt → c.length ≤ first_unlawful c.length g → Good Fit c l r g
   unfolding glanced
   glanced_good e k =
       let b = tested (sized l r g) _ answer.Length e in
-      let d = tested (leb (entries l) pairs && (leb (entries r) pairs && whole_control c)) Admitted answer.Broken b.1 in
+      let d = tested (leb (entries l) pairs && (leb (entries r) pairs && whole_control c)) (Ok tt) answer.Broken b.1 in
       let s = both (eqb (length l) words) _ b.0 in
       let t = both (eqb (length r) words) _ s.1 in
       let m = both (leb (entries l) pairs) _ d.0 in
@@ -78,7 +77,7 @@ module _ (c : Control) (l r g : List ℕ) where
       }
 
 module _ (st : State) (l r g : List ℕ) where
-  pub good_judged : Good Fit st.control l r g → orderly st ≡ true → judged st l r g ≡ Admitted
+  pub good_judged : Good Fit st.control l r g → orderly st ≡ true → judged st l r g ≡ Ok tt
   unfolding judged
   good_judged h o =
       let c = st.control in
@@ -86,22 +85,22 @@ module _ (st : State) (l r g : List ℕ) where
       rw (good_glanced c l r g h, e, o, judged)
 
   admitted :
-      judged st l r g ≡ Admitted →
+      judged st l r g ≡ Ok tt →
       (let n = st.control.length in
-      (glanced st.control l r g ≡ Admitted) × ((leb n (first_unlawful n g) && orderly st) ≡ true))
+      (glanced st.control l r g ≡ Ok tt) × ((leb n (first_unlawful n g) && orderly st) ≡ true))
   unfolding judged
   admitted e =
       let n = st.control.length in
       let a = passed_on (glanced st.control l r g) _ e in
-      (a.0, (tested (leb n (first_unlawful n g) && orderly st) Admitted answer.Broken a.1).0)
+      (a.0, (tested (leb n (first_unlawful n g) && orderly st) (Ok tt) answer.Broken a.1).0)
 
-  pub judged_good : judged st l r g ≡ Admitted → Good Fit st.control l r g
+  pub judged_good : judged st l r g ≡ Ok tt → Good Fit st.control l r g
   judged_good e =
       let n = st.control.length in
       let a = admitted e in
       glanced_good st.control l r g a.0 (leb-true _ _ (both (leb n (first_unlawful n g)) (orderly st) a.1).0)
 
-  pub judged_orderly : judged st l r g ≡ Admitted → orderly st ≡ true
+  pub judged_orderly : judged st l r g ≡ Ok tt → orderly st ≡ true
   judged_orderly e =
       let n = st.control.length in
       (both (leb n (first_unlawful n g)) (orderly st) (admitted e).1).1

@@ -13,10 +13,10 @@ use Rattle.read.specs.declared.Phase.{Phase}
 use Rattle.read.specs.declared.Phase.TheVariants.{Begin, Poll, Null}
 use Rattle.read.specs.declared.Job.TheVariants.{Try, TakeFirst}
 use Rattle.read.specs.declared.Control.{Control}
-use Rattle.read.specs.declared.Verdict.{Verdict}
-use Rattle.read.specs.declared.Verdict.TheVariants.{Admitted, Refused}
-use Rattle.read.specs.Machine.{standing, log_room}
-use Rattle.read.specs.Handles.{Sign, smallest, with_due}
+use Rattle.read.specs.Machine.{Verdict, standing, log_room}
+use Rattle.std.specs.Prelude.{Ok, Err}
+use Rattle.read.specs.declared.Sign.{Sign}
+use Rattle.read.specs.Handles.{smallest, with_due}
 use Rattle.read.specs.Calls.{Lent, lent}
 use Rattle.write.specs.declared.Moved.{Moved}
 use Rattle.write.specs.declared.Opening.{Opening}
@@ -74,25 +74,25 @@ module _ (os : List Op) (c : Control) (s : Slot) {u f : Bool} {n : ℕ} {v : Ver
     signed = h ∙ (λ i. smallest (writer_signs 7 (not (x i)) ((y ∙ ap (λ (n : ℕ). crowds n c) z) i) c s))
 
     -- what one that is made was admitted by
-    pub append_fits : v ≡ Admitted → (all_lawful os ≡ true) × (crowds (length os) c ≡ false)
+    pub append_fits : v ≡ Ok tt → (all_lawful os ≡ true) × (crowds (length os) c ≡ false)
     append_fits q =
-        let a : smallest signs ≡ Admitted = sym signed ∙ q in (
+        let a : smallest signs ≡ Ok tt = sym signed ∙ q in (
           (both (leb (length os) batch_room) (all_lawful os) (not-false (lawful_batch os) (silent 5 signs a))).1,
           silent 11 signs a,
         )
 
     module _ (how : Search) (e : ℕ) (l r g : List ℕ) where
       abbrev Judged : Verdict → Lent Moved
-      Judged v = elim v [ Admitted ↦ appended how c.first os c s e l r g | Refused a ↦ lent (refused a c s e) l r g ]
+      Judged v = elim v [ Ok _ ↦ appended how c.first os c s e l r g | Err a ↦ lent (refused a c s e) l r g ]
 
       append_by_lem : {w : Verdict} → v ≡ w → Judged w ≡ append_by how os c s e l r g
       unfolding append_by
       append_by_lem q = ap Judged (sym q ∙ signed)
 
-      pub append_admitted : {o : Lent Moved} → v ≡ Admitted → o ≡ appended how c.first os c s e l r g → o ≡ append_by how os c s e l r g
+      pub append_admitted : {o : Lent Moved} → v ≡ Ok tt → o ≡ appended how c.first os c s e l r g → o ≡ append_by how os c s e l r g
       append_admitted q k = k ∙ append_by_lem q
 
-      pub append_refused : {a : Answer} {m : Moved} → v ≡ Refused a → m ≡ refused a c s e → lent m l r g ≡ append_by how os c s e l r g
+      pub append_refused : {a : Answer} {m : Moved} → v ≡ Err a → m ≡ refused a c s e → lent m l r g ≡ append_by how os c s e l r g
       append_refused q k = ap (λ (m : Moved). lent m l r g) k ∙ append_by_lem q
 
 -- the same of one operation, lawful by itself
@@ -105,21 +105,17 @@ module _ (kind key amount : ℕ) (c : Control) (s : Slot) {u f : Bool} {v : Verd
     lawful_one : u ≡ lawful_batch one
     lawful_one = x ∙ sym (and-true (lawful kind key amount))
 
-    pub one_fits : v ≡ Admitted → crowds 1 c ≡ false
+    pub one_fits : v ≡ Ok tt → crowds 1 c ≡ false
     one_fits q = (append_fits one c s lawful_one refl y h q).1
 
     module _ (how : Search) (e : ℕ) (l r g : List ℕ) where
-      pub one_admitted : {o : Lent Moved} → v ≡ Admitted → o ≡ appended how c.first one c s e l r g → o ≡ append_by how one c s e l r g
+      pub one_admitted : {o : Lent Moved} → v ≡ Ok tt → o ≡ appended how c.first one c s e l r g → o ≡ append_by how one c s e l r g
       one_admitted = append_admitted one c s lawful_one refl y h how e l r g
 
-      pub one_refused : {a : Answer} {m : Moved} → v ≡ Refused a → m ≡ refused a c s e → lent m l r g ≡ append_by how one c s e l r g
+      pub one_refused : {a : Answer} {m : Moved} → v ≡ Err a → m ≡ refused a c s e → lent m l r g ≡ append_by how one c s e l r g
       one_refused = append_refused one c s lawful_one refl y h how e l r g
 
 -- ---- publish, try, flush, take
-
-pub taking_by : (c : Control) {b w : Bool} {p : Phase} → b ≡ (c.first || ltb 0 c.length) → b ≡ w →
-    p ≡ elim w [ true ↦ Begin | false ↦ Null ] → p ≡ taking c
-taking_by c x y h = h ∙ ap (λ (b : Bool). elim b as (λ _. Phase) [ true ↦ Begin | false ↦ Null ]) (sym y ∙ x)
 
 module _ (o : Opening) (c : Control) (s : Slot) (e : ℕ) where
   opened_by : {m : Moved} {k : Opening} → o ≡ k → m ≡ opened k c s e → m ≡ opened o c s e
@@ -154,15 +150,15 @@ module _ (o : Opening) (c : Control) (s : Slot) (e : ℕ) where
   opened_take q x y h = opened_by q (valued (y ∙ ap (λ (p : Phase). standing p TakeFirst c) x) h)
 
   abbrev OpenJudged : Verdict → Moved
-  OpenJudged v = elim v [ Admitted ↦ opened o c s e | Refused a ↦ refused a c s e ]
+  OpenJudged v = elim v [ Ok _ ↦ opened o c s e | Err a ↦ refused a c s e ]
 
   module _ {k : ℕ} {v : Verdict} (x : k ≡ column_of o) (z : v ≡ smallest (writer_signs k false false c s)) where
     open_by : {w : Verdict} → v ≡ w → OpenJudged w ≡ open_on o c s e
     unfolding open_on
     open_by q = ap OpenJudged (sym q ∙ z ∙ ap (λ (k : ℕ). smallest (writer_signs k false false c s)) x)
 
-    pub open_admitted : {m : Moved} → v ≡ Admitted → m ≡ opened o c s e → m ≡ open_on o c s e
+    pub open_admitted : {m : Moved} → v ≡ Ok tt → m ≡ opened o c s e → m ≡ open_on o c s e
     open_admitted q h = h ∙ open_by q
 
-    pub open_refused : {m : Moved} {a : Answer} → v ≡ Refused a → m ≡ refused a c s e → m ≡ open_on o c s e
+    pub open_refused : {m : Moved} {a : Answer} → v ≡ Err a → m ≡ refused a c s e → m ≡ open_on o c s e
     open_refused q h = h ∙ open_by q

@@ -11,7 +11,7 @@ use Rattle.read.specs.declared.State.{State}
 use Rattle.read.specs.declared.Handle.{Handle}
 use Rattle.read.specs.declared.Made.{Made}
 use Rattle.read.specs.declared.Reply.{Reply}
-use Rattle.read.specs.declared.Verdict.TheVariants.{Admitted}
+use Rattle.std.specs.Prelude.{Ok}
 use Rattle.read.specs.Machine.{slot_count, log_words, orderly, judged, fresh, no_slot, with_free, place}
 use Rattle.read.specs.Handles.{smallest, handle_on, create_on}
 use Rattle.read.specs.Calls.{Lent, lent, slot_at, reply_of, handle_reply, create_reply}
@@ -51,7 +51,7 @@ pub record Sound (st : State) (l r g : List ℕ) : Type 0 where
   pub slots : length st.slots ≡ slot_count
   pub snapshots : length st.snapshots ≡ slot_count
 
-pub sound_judged : {st : State} {l r g : List ℕ} → Sound st l r g → judged st l r g ≡ Admitted
+pub sound_judged : {st : State} {l r g : List ℕ} → Sound st l r g → judged st l r g ≡ Ok tt
 sound_judged {st} {l} {r} {g} h = good_judged st l r g (good_fit kept_tidy h.good) h.ordered
 
 pub sound_fresh : Sound fresh (replicate words 0) (replicate words 0) (replicate log_words 0)

@@ -15,7 +15,7 @@ use Rattle.read.specs.declared.Handle.{Handle}
 use Rattle.read.specs.declared.Handle.TheVariants.{Drop, Enter, GoOn, Release, LookUp, WasDropped}
 use Rattle.read.specs.declared.Made.{Made}
 use Rattle.read.specs.declared.Reply.{Reply}
-use Rattle.read.specs.declared.Verdict.TheVariants.{Admitted}
+use Rattle.std.specs.Prelude.{Ok}
 use Rattle.read.specs.Machine.{slot_count, no_slot, any_open, underway, judged, place}
 use Rattle.read.specs.Handles.{smallest, handle_signs, create_signs, made_of, loaded, went_on, handled, handle_on, create_on, handle_by, handled_by}
 use Rattle.read.specs.Calls.{Lent, lent, slot_at, refusal, reply_of, handle_reply, create_reply}
@@ -161,7 +161,7 @@ module _ (st : State) (l r g : List ℕ) where
 
   kind_going :
       (b column : ℕ) (rule : State → List ℕ → List ℕ → List ℕ → Lent Reply) →
-      (smallest (step_signs column st.control) ≡ Admitted → KindCall b st l r g (rule st l r g)) →
+      (smallest (step_signs column st.control) ≡ Ok tt → KindCall b st l r g (rule st l r g)) →
       KindCall b st l r g (going column rule st l r g)
   kind_going b column rule f =
       let signs = step_signs column st.control in

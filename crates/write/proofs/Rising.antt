@@ -8,7 +8,7 @@ use Rattle.read.specs.declared.Slot.{Slot}
 use Rattle.read.specs.declared.Phase.{Phase}
 use Rattle.read.specs.declared.Phase.TheVariants.{Idle, Begin, Poll, Copy, Drain, Keep, Swap, Snap, Null, Lock, LastSnap, LastPoll, Finish, Gone}
 use Rattle.read.specs.declared.Control.{Control}
-use Rattle.read.specs.declared.Verdict.TheVariants.{Admitted, Refused}
+use Rattle.std.specs.Prelude.{Ok, Err}
 use Rattle.read.specs.Machine.{log_room}
 use Rattle.read.specs.Handles.{smallest, with_due}
 use Rattle.read.specs.Calls.{lent}
@@ -80,7 +80,7 @@ module _ (how : Search) where
     append_rising os =
         λ k.
         elim (smallest (writer_signs 7 (not (lawful_batch os)) (crowds (length os) c) c s)) [
-          | Admitted ↦
+          | Ok _ ↦
               elim c.first [
                 | true ↦
                     lent (made_at_once c (with_due ((s.epoch + 2) % 2 ^ 64) s.due s) e)
@@ -88,5 +88,5 @@ module _ (how : Search) where
                     (right_same c.right (operated_all_by how os) (operated_all os) (operated_all_rising os r y) k) g
                 | false ↦ append_later os c s e l r g
               ]
-          | Refused a ↦ lent (refused a c s e) l r g
+          | Err a ↦ lent (refused a c s e) l r g
         ]

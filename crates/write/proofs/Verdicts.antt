@@ -6,9 +6,8 @@ use Rattle.read.specs.declared.Phase.{Phase}
 use Rattle.read.specs.declared.Phase.TheVariants.{Idle}
 use Rattle.read.specs.declared.Control.{Control}
 use Rattle.read.specs.declared.Slot.{Slot}
-use Rattle.read.specs.declared.Verdict.{Verdict}
-use Rattle.read.specs.declared.Verdict.TheVariants.{Admitted, Refused}
-use Rattle.read.specs.Machine.{underway, is_gone}
+use Rattle.read.specs.Machine.{Verdict, underway, is_gone}
+use Rattle.std.specs.Prelude.{Ok, Err}
 use Rattle.read.specs.Admission.{entry, not_now}
 use Rattle.read.specs.Handles.{smallest}
 use Rattle.write.specs.declared.Opening.{Opening}
@@ -20,10 +19,10 @@ use Rattle.read.proofs.Phases.{phase_cases}
 -- ---- a verdict, by its value
 
 pub judging {ℓ} :
-    {A : Type 0} (P : A → Type ℓ) (v : Verdict) {x : A} {y : Answer → A} → (v ≡ Admitted → P x) → ((a : Answer) → v ≡ Refused a → P (y a)) →
-    P (elim v [ Admitted ↦ x | Refused a ↦ y a ])
-judging P Admitted f g = f refl
-judging P (Refused a) f g = g a refl
+    {A : Type 0} (P : A → Type ℓ) (v : Verdict) {x : A} {y : Answer → A} → (v ≡ Ok tt → P x) → ((a : Answer) → v ≡ Err a → P (y a)) →
+    P (elim v [ Ok _ ↦ x | Err a ↦ y a ])
+judging P (Ok _) f g = f refl
+judging P (Err a) f g = g a refl
 
 -- ---- which phase admits the writer's calls
 
@@ -34,7 +33,7 @@ idle_by =
 
 -- append, in column 7, is admitted in phase Idle alone, and so are the beginnings
 pub append_idle :
-    (unlawful full : Bool) (c : Control) (s : Slot) → smallest (writer_signs 7 unlawful full c s) ≡ Admitted → c.phase ≡ Idle
+    (unlawful full : Bool) (c : Control) (s : Slot) → smallest (writer_signs 7 unlawful full c s) ≡ Ok tt → c.phase ≡ Idle
 unfolding entry
 append_idle unlawful full c s e =
     idle_by c.phase (neither _ _ (silent 6 (writer_signs 7 unlawful full c s) e)).0
@@ -47,7 +46,7 @@ open_timely opening.Flush p e = e
 open_timely opening.Take p e = e
 
 pub open_idle :
-    (o : Opening) (c : Control) (s : Slot) → smallest (writer_signs (column_of o) false false c s) ≡ Admitted → c.phase ≡ Idle
+    (o : Opening) (c : Control) (s : Slot) → smallest (writer_signs (column_of o) false false c s) ≡ Ok tt → c.phase ≡ Idle
 open_idle o c s e =
     idle_by c.phase
     (open_timely o c.phase (neither _ _ (silent 6 (writer_signs (column_of o) false false c s) e)).0)
@@ -58,6 +57,6 @@ going_by : (b : Bool) → eqb (not_now (not b)) 6 ≡ false → b ≡ true
 going_by true e = refl
 going_by false e = absurd (true≢false e)
 
-pub step_underway : (c : Control) → smallest (step_signs 12 c) ≡ Admitted → underway c.phase ≡ true
+pub step_underway : (c : Control) → smallest (step_signs 12 c) ≡ Ok tt → underway c.phase ≡ true
 unfolding entry
 step_underway c e = going_by (underway c.phase) (silent 6 (step_signs 12 c) e)

@@ -1,5 +1,5 @@
 -- The writer's calls that are made at once: append, and the beginnings of publish, try, flush and take. They look at slot 0.
-use Rattle.std.specs.Prelude.{ℕ, suc, ◌+◌, ◌*◌, ◌%◌, ◌^◌, Bool, true, false, not, ◌&&◌, ◌||◌, List, [], ◌∷◌, length, ◌==◌, nat_le, nat_lt, slice_set}
+use Rattle.std.specs.Prelude.{ℕ, suc, ◌+◌, ◌*◌, ◌%◌, ◌^◌, Bool, true, false, not, ◌&&◌, ◌||◌, List, [], ◌∷◌, length, ◌==◌, nat_le, nat_lt, slice_set, Ok, Err}
 use Rattle.table.specs.Copy.{lawful}
 use Rattle.table.specs.declared.Search.{Search}
 use Rattle.table.specs.declared.Search.TheVariants.{Walk}
@@ -10,10 +10,10 @@ use Rattle.read.specs.declared.Phase.{Phase}
 use Rattle.read.specs.declared.Phase.TheVariants.{Begin, Null}
 use Rattle.read.specs.declared.Job.TheVariants.{Publish, Try, TakeFirst}
 use Rattle.read.specs.declared.Control.{Control}
-use Rattle.read.specs.declared.Verdict.TheVariants.{Admitted, Refused}
 use Rattle.read.specs.Machine.{standing, log_room, is_gone, is_due, any_open}
 use Rattle.read.specs.Admission.{entry}
-use Rattle.read.specs.Handles.{Sign, sign, smallest, with_due}
+use Rattle.read.specs.declared.Sign.{Sign}
+use Rattle.read.specs.Handles.{sign, smallest, with_due}
 use Rattle.read.specs.Calls.{Lent, lent}
 use Rattle.write.specs.declared.Moved.{Moved}
 use Rattle.write.specs.declared.Opening.{Opening}
@@ -91,7 +91,7 @@ appended how first os c s e l r g =
 unfoldable pub append_by : Search → List Op → Control → Slot → ℕ → List ℕ → List ℕ → List ℕ → Lent Moved
 append_by how os c s e l r g =
     elim (smallest (writer_signs 7 (not (lawful_batch os)) (crowds (length os) c) c s))
-    [ Admitted ↦ appended how c.first os c s e l r g | Refused a ↦ lent (refused a c s e) l r g ]
+    [ Ok _ ↦ appended how c.first os c s e l r g | Err a ↦ lent (refused a c s e) l r g ]
 
 abbrev pub append_on : List Op → Control → Slot → ℕ → List ℕ → List ℕ → List ℕ → Lent Moved
 append_on = append_by Walk
@@ -122,4 +122,4 @@ opened opening.Take c s e = value 0 (standing (taking c) TakeFirst c) s e
 
 unfoldable pub open_on : Opening → Control → Slot → ℕ → Moved
 open_on o c s e =
-    elim (smallest (writer_signs (column_of o) false false c s)) [ Admitted ↦ opened o c s e | Refused a ↦ refused a c s e ]
+    elim (smallest (writer_signs (column_of o) false false c s)) [ Ok _ ↦ opened o c s e | Err a ↦ refused a c s e ]

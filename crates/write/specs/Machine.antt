@@ -1,6 +1,5 @@
 -- The whole machine: every call, judged on the whole state and all three lent slices.
-use Rattle.std.specs.Prelude.{ℕ, Bool, true, false, List}
-use Rattle.read.specs.declared.Verdict.TheVariants.{Admitted, Refused}
+use Rattle.std.specs.Prelude.{ℕ, Bool, true, false, List, Ok, Err}
 use Rattle.read.specs.declared.State.{State}
 use Rattle.read.specs.declared.Reply.{Reply}
 use Rattle.read.specs.Machine.{judged}
@@ -13,7 +12,7 @@ use Rattle.write.specs.Runs.{snap_at, lift, step_on, run_on}
 -- step, in column 12 of the table of admissions, and run, in 13: refused, or made
 abbrev pub going : ℕ → (State → List ℕ → List ℕ → List ℕ → Lent Reply) → State → List ℕ → List ℕ → List ℕ → Lent Reply
 going column rule st l r g =
-    elim (smallest (step_signs column st.control)) [ Admitted ↦ rule st l r g | Refused a ↦ lent (refusal a st) l r g ]
+    elim (smallest (step_signs column st.control)) [ Ok _ ↦ rule st l r g | Err a ↦ lent (refusal a st) l r g ]
 
 -- both, by whether it is run
 abbrev pub goes : Bool → Call
@@ -40,4 +39,4 @@ call_on Run st l r g = going 13 run_on st l r g
 -- a call
 unfoldable pub call_rule : Call → State → List ℕ → List ℕ → List ℕ → Lent Reply
 call_rule k st l r g =
-    elim (judged st l r g) [ Admitted ↦ call_on k st l r g | Refused a ↦ lent (refusal a st) l r g ]
+    elim (judged st l r g) [ Ok _ ↦ call_on k st l r g | Err a ↦ lent (refusal a st) l r g ]

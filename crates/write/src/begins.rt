@@ -9,7 +9,8 @@ ghost use Rattle.write.specs.Call.{ops_in};
 ghost use Rattle.write.specs.Begins.{writer_signs, step_signs, all_lawful, crowds as crowds_rule, appended as appended_rule, append_by, append_on, column_of, begun as begun_rule, value as value_rule, taking as taking_rule, opened as opened_rule, open_on};
 
 use crate::{Moved, Opening, phases, slices, steps};
-use read::{Control, Job, LOG_ROOM, Phase, Slot, Verdict, admission, guards, handles, truth};
+use read::handles::sign;
+use read::{Control, Job, LOG_ROOM, Phase, Slot, Verdict, admission, guards, handles};
 use table::{Answer, Search};
 
 // The row of the phase after take's finish, in the table of admissions.
@@ -26,34 +27,30 @@ fn is_gone(p: Phase) -> bool
 fn writer_verdict(column: usize, unlawful: bool, full: bool, c: Control, s: Slot) -> Verdict
     ensures { result ≡ smallest (writer_signs column unlawful full c s) }
 {
-    let p = c.phase;
-    let d = s.due;
-    let g = s.guards;
-    let v = handles::given(full, Answer::LogFull, Verdict::Admitted);
-    let v = handles::given(guards::any_open(g), Answer::GuardsOpen, v);
-    let v = handles::given(
-        truth::either(
-            admission::entry(p, column) == admission::NOT_NOW,
-            guards::is_due(d),
+    let e = admission::entry(c.phase, column);
+    handles::smallest(&[
+        sign(Answer::Gone, is_gone(c.phase)),
+        sign(Answer::Operation, unlawful),
+        sign(
+            Answer::NotNow,
+            e == admission::NOT_NOW || guards::is_due(s.due),
         ),
-        Answer::NotNow,
-        v,
-    );
-    let v = handles::given(unlawful, Answer::Operation, v);
-    handles::given(is_gone(p), Answer::Gone, v)
+        sign(Answer::GuardsOpen, guards::any_open(s.guards)),
+        sign(Answer::LogFull, full),
+    ])
 }
 
 // Step and run look at no slot to be admitted.
 pub fn step_verdict(column: usize, c: Control) -> Verdict
     ensures { result ≡ smallest (step_signs column c) }
 {
-    let p = c.phase;
-    let v = handles::given(
-        admission::entry(p, column) == admission::NOT_NOW,
-        Answer::NotNow,
-        Verdict::Admitted,
-    );
-    handles::given(is_gone(p), Answer::Gone, v)
+    handles::smallest(&[
+        sign(Answer::Gone, is_gone(c.phase)),
+        sign(
+            Answer::NotNow,
+            admission::entry(c.phase, column) == admission::NOT_NOW,
+        ),
+    ])
 }
 
 // ---- append
@@ -135,8 +132,8 @@ pub fn append_by(
     let unlawful = !table::lawful(kind, key, amount);
     let v = writer_verdict(7, unlawful, crowds(1, c), c, s);
     match v {
-        Verdict::Admitted => appended(how, kind, key, amount, c, s, e, left, right, log),
-        Verdict::Refused(a) => steps::refused(a, c, s, e),
+        Ok(()) => appended(how, kind, key, amount, c, s, e, left, right, log),
+        Err(a) => steps::refused(a, c, s, e),
     }
 }
 
@@ -202,8 +199,8 @@ pub fn extend_by(
     let full = crowds(slices::count(ops), c);
     let v = writer_verdict(7, unlawful, full, c, s);
     match v {
-        Verdict::Admitted => extended(how, ops, c, s, e, left, right, log),
-        Verdict::Refused(a) => steps::refused(a, c, s, e),
+        Ok(()) => extended(how, ops, c, s, e, left, right, log),
+        Err(a) => steps::refused(a, c, s, e),
     }
 }
 
@@ -245,7 +242,7 @@ fn begun(c: Control) -> Control
 fn taking(c: Control) -> Phase
     ensures { result ≡ taking_rule c }
 {
-    if truth::either(c.first, 0 < c.length) {
+    if c.first || 0 < c.length {
         return Phase::Begin;
     }
     Phase::Null
@@ -273,7 +270,7 @@ pub fn open_on(o: Opening, c: Control, s: Slot, e: u64) -> Moved
 {
     let v = writer_verdict(column_of(o), false, false, c, s);
     match v {
-        Verdict::Admitted => opened(o, c, s, e),
-        Verdict::Refused(a) => steps::refused(a, c, s, e),
+        Ok(()) => opened(o, c, s, e),
+        Err(a) => steps::refused(a, c, s, e),
     }
 }

@@ -20,7 +20,8 @@ use Rattle.read.specs.declared.Handle.TheVariants.{Drop, Enter, GoOn, Release, L
 use Rattle.read.specs.declared.Due.TheVariants as due
 use Rattle.read.specs.Machine.{slot_count, guard_count, log_room, underway, is_gone, locks, is_due, is_load, is_open, any_open, all_open}
 use Rattle.read.specs.Admission.{column, entry}
-use Rattle.read.specs.Handles.{smallest, handle_signs, create_signs, Sign}
+use Rattle.read.specs.declared.Sign.{Sign}
+use Rattle.read.specs.Handles.{smallest, handle_signs, create_signs}
 use Rattle.read.proofs.Phases.{underway_stays, gone_is, idle_is}
 use Rattle.write.specs.declared.Opening.{Opening}
 use Rattle.write.specs.Call.{Call, Create, On, Append, Open, Step}

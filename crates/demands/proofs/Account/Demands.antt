@@ -16,10 +16,10 @@ use Rattle.read.specs.declared.Phase.{Phase}
 use Rattle.read.specs.declared.Slot.{Slot}
 use Rattle.read.specs.declared.Control.{Control}
 use Rattle.read.specs.declared.Handle.TheVariants.{LookUp}
-use Rattle.read.specs.declared.Verdict.{Verdict}
-use Rattle.read.specs.declared.Verdict.TheVariants.{Admitted, Refused}
-use Rattle.read.specs.Machine.{slot_count, guard_count, no_slot, log_words, fresh, is_gone, is_open, judged}
-use Rattle.read.specs.Handles.{smallest, handle_signs, guarded_copy, copy_of, bit, Sign}
+use Rattle.read.specs.Machine.{Verdict, slot_count, guard_count, no_slot, log_words, fresh, is_gone, is_open, judged}
+use Rattle.std.specs.Prelude.{Ok, Err}
+use Rattle.read.specs.declared.Sign.{Sign}
+use Rattle.read.specs.Handles.{smallest, handle_signs, guarded_copy, copy_of, bit}
 use Rattle.read.specs.Calls.{slot_at, through_rule}
 use Rattle.read.proofs.Verdicts.{mild, refused_mild}
 use Rattle.read.proofs.Phases.{gone_is, idle_or_gone}
@@ -155,9 +155,9 @@ all_told ks = all_telling ks (record { world = fresh_world; account = fresh_acco
 
 -- ---- what it says
 
-pub admitted_zero : (v : Verdict) (s : List Sign) → mild s ≡ true → (n : ℕ) → smallest s ≡ v → answer_no v n ≡ 0 → v ≡ Admitted
-admitted_zero Admitted s m n e z = refl
-admitted_zero (Refused x) s m n e z = absurd (let y = refused_mild s m x e in omega arith)
+pub admitted_zero : (v : Verdict) (s : List Sign) → mild s ≡ true → (n : ℕ) → smallest s ≡ v → answer_no v n ≡ 0 → v ≡ Ok tt
+admitted_zero (Ok _) s m n e z = refl
+admitted_zero (Err x) s m n e z = absurd (let y = refused_mild s m x e in omega arith)
 
 module _ {w : World} {a : Account} (h : Tie w a) where
   abbrev c : Control
@@ -212,24 +212,24 @@ module _ {w : World} {a : Account} (h : Tie w a) where
       through (judged w.state w.left w.right w.log) (ltb i slot_count) (smallest signs) (sound_judged h.sound) (lt-ltb i slot_count lt) v
       ∙ (h.inv.each i).shows j (open_here i j p)
     where
-      through : (v : Verdict) (b : Bool) (u : Verdict) → v ≡ Admitted → b ≡ true → u ≡ Admitted →
+      through : (v : Verdict) (b : Bool) (u : Verdict) → v ≡ Ok tt → b ≡ true → u ≡ Ok tt →
           ◌≡◌ {A = List ℕ}
           (elim v [
-            | Admitted ↦
+            | Ok _ ↦
                 elim b [
-                  | true ↦ elim u [ Admitted ↦ guarded_copy (slot_at w.state i).guards j w.left w.right | Refused x ↦ [] ]
+                  | true ↦ elim u [ Ok _ ↦ guarded_copy (slot_at w.state i).guards j w.left w.right | Err x ↦ [] ]
                   | false ↦ []
                 ]
-            | Refused x ↦ []
+            | Err x ↦ []
           ]) (guarded_copy (slot_at w.state i).guards j w.left w.right)
       through v b u p q r =
           λ y. elim (p y) [
-            | Admitted ↦
+            | Ok _ ↦
                 elim (q y) [
-                  | true ↦ elim (r y) [ Admitted ↦ guarded_copy (slot_at w.state i).guards j w.left w.right | Refused x ↦ [] ]
+                  | true ↦ elim (r y) [ Ok _ ↦ guarded_copy (slot_at w.state i).guards j w.left w.right | Err x ↦ [] ]
                   | false ↦ []
                 ]
-            | Refused x ↦ []
+            | Err x ↦ []
           ]
 
   shut_shows : (i j : ℕ) → (a.readers i).guards j ≡ false → through_rule i j w.left w.right w.log w.state ≡ []

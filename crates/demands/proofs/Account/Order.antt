@@ -15,8 +15,7 @@ use Rattle.table.proofs.Seek.{seek_none, seek_unique}
 use Rattle.table.proofs.Split.{under}
 use Rattle.table.proofs.Booleans.{clash}
 use Rattle.table.proofs.Lists.{get_d_same}
-use Rattle.read.specs.declared.Link.{Link}
-use Rattle.read.specs.declared.Link.TheVariants.{Fresh}
+use Rattle.std.specs.Prelude.{Option, None}
 use Rattle.read.specs.declared.Slot.{Slot}
 use Rattle.read.specs.declared.State.{State}
 use Rattle.read.specs.Machine.{slot_count, no_slot, new_slot, behind, fresh}
@@ -45,7 +44,7 @@ freed_same h none = none
 freed_same {ss} {ts} {e} h (first {i} {is} l u n f) =
     let (p, q) = h i (mathlib.Core.List.Memᴰ.head refl) in
     first l (p ∙ u) n
-    (subst (λ (x : Link). Freed ts e (behind i x) is) (sym q) (freed_same (λ j m. h j (mathlib.Core.List.Memᴰ.tail m)) f))
+    (subst (λ (x : Option ℕ). Freed ts e (behind i x) is) (sym q) (freed_same (λ j m. h j (mathlib.Core.List.Memᴰ.tail m)) f))
 
 -- a store elsewhere
 freed_apart : {ss : List Slot} {e k : ℕ} {is : List ℕ} (i : ℕ) (s : Slot) → ¬ (Memᴰ i is) → Freed ss e k is → Freed (set ss i s) e k is
@@ -76,7 +75,7 @@ pub record Order (ns : List ℕ) (used : ℕ → Bool) (k : ℕ) (ss : List Slot
   pub ever : (i : ℕ) → used i ≡ ltb i end
   pub comes : Freed ss end k ns
   -- from there on all are free, each with the next number behind it
-  pub new : (i : ℕ) → end ≤ i → ((at ss i).used ≡ false) × ((at ss i).link ≡ Fresh)
+  pub new : (i : ℕ) → end ≤ i → ((at ss i).used ≡ false) × ((at ss i).link ≡ None)
 
 abbrev pub OrderOf : Account → State → Type 0
 OrderOf a st = Order a.slots.freed a.slots.used st.control.free st.slots
@@ -124,7 +123,7 @@ module _ {ns : List ℕ} {used : ℕ → Bool} {k : ℕ} {ss : List Slot} (h : O
       }
 
   -- a store below the end leaves all from there on
-  new_apart : (i : ℕ) (s : Slot) (e : ℕ) → h.end ≤ e → i < e → (j : ℕ) → e ≤ j → ((at (set ss i s) j).used ≡ false) × ((at (set ss i s) j).link ≡ Fresh)
+  new_apart : (i : ℕ) (s : Slot) (e : ℕ) → h.end ≤ e → i < e → (j : ℕ) → e ≤ j → ((at (set ss i s) j).used ≡ false) × ((at (set ss i s) j).link ≡ None)
   new_apart i s e le l j m =
       let o : at (set ss i s) j ≡ at ss j = get_or-set_other ss i j s no_slot (λ q. omega arith) in
       let (u, f) = h.new j (omega arith) in
@@ -168,7 +167,7 @@ module _ {ns : List ℕ} {used : ℕ → Bool} {k : ℕ} {ss : List Slot} (h : O
         end = suc e;
         within = b;
         ever = ever_more e (suc e) (omega arith) end_more;
-        comes = subst (λ (x : Link). Freed (set ss e new_slot) (suc e) (behind e x) []) (sym (h.new e (omega arith)).1) none;
+        comes = subst (λ (x : Option ℕ). Freed (set ss e new_slot) (suc e) (behind e x) []) (sym (h.new e (omega arith)).1) none;
         new = new_apart e new_slot (suc e) (omega arith) (omega arith);
       }
   handed (first {i} {is} l u n f) b =
@@ -201,6 +200,6 @@ order_fresh =
     ever zero = refl
     ever (suc i) = other_at 0 true (λ k. false) (suc i) (λ e. omega arith) ∙ sym (le-ltb (suc i) 1 (omega arith))
 
-    new : (i : ℕ) → 1 ≤ i → ((at fresh.slots i).used ≡ false) × ((at fresh.slots i).link ≡ Fresh)
+    new : (i : ℕ) → 1 ≤ i → ((at fresh.slots i).used ≡ false) × ((at fresh.slots i).link ≡ None)
     new zero l = absurd (omega arith)
     new (suc i) l = let e = get_d_same (slot_count - 1) i no_slot in (ap (λ (s : Slot). s.used) e, ap (λ (s : Slot). s.link) e)

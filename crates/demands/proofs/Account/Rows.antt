@@ -15,11 +15,11 @@ use Rattle.read.specs.declared.Phase.TheVariants.{Idle, Begin, Poll, Copy, Drain
 use Rattle.read.specs.declared.Control.{Control}
 use Rattle.read.specs.declared.Handle.{Handle}
 use Rattle.read.specs.declared.Handle.TheVariants.{Drop, Enter, GoOn, Release, LookUp, WasDropped}
-use Rattle.read.specs.declared.Verdict.{Verdict}
-use Rattle.read.specs.declared.Verdict.TheVariants.{Admitted, Refused}
-use Rattle.read.specs.Machine.{underway, is_gone, locks}
+use Rattle.read.specs.Machine.{Verdict, underway, is_gone, locks}
+use Rattle.std.specs.Prelude.{Ok, Err}
 use Rattle.read.specs.Admission.{handle_number, column, entry, not_now, locked as locked_no}
-use Rattle.read.specs.Handles.{Sign, smallest}
+use Rattle.read.specs.declared.Sign.{Sign}
+use Rattle.read.specs.Handles.{smallest}
 use Rattle.read.proofs.Phases.{idle_or_gone}
 use Rattle.write.specs.Call.{Call, Create, On, Append, Open, Step, Run}
 use Rattle.write.specs.declared.Opening.TheVariants as opening
@@ -155,8 +155,8 @@ sign_rows [] = []
 sign_rows (x ∷ xs) = row (number x.answer) x.applies ∷ sign_rows xs
 
 abbrev pub answer_no : Verdict → ℕ → ℕ
-answer_no Admitted x = x
-answer_no (Refused a) x = number a
+answer_no (Ok _) x = x
+answer_no (Err a) x = number a
 
 pub rows_least : (s : List Sign) (rest : List Row) → least (sign_rows s ++ rest) ≡ answer_no (smallest s) (least rest)
 unfolding smallest
@@ -164,7 +164,7 @@ rows_least [] rest = refl
 rows_least (x ∷ xs) rest = given x.applies (rows_least xs rest)
   where
     given : (b : Bool) → least (sign_rows xs ++ rest) ≡ answer_no (smallest xs) (least rest) →
-        elim b [ true ↦ number x.answer | false ↦ least (sign_rows xs ++ rest) ] ≡ answer_no (elim b [ true ↦ Refused x.answer | false ↦ smallest xs ]) (least rest)
+        elim b [ true ↦ number x.answer | false ↦ least (sign_rows xs ++ rest) ] ≡ answer_no (elim b [ true ↦ Err x.answer | false ↦ smallest xs ]) (least rest)
     given true e = refl
     given false e = e
 

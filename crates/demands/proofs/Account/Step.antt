@@ -21,7 +21,7 @@ use Rattle.read.specs.declared.Slot.{Slot}
 use Rattle.read.specs.declared.Control.{Control}
 use Rattle.read.specs.declared.State.{State}
 use Rattle.read.specs.declared.Reply.{Reply}
-use Rattle.read.specs.declared.Verdict.TheVariants.{Admitted}
+use Rattle.std.specs.Prelude.{Ok}
 use Rattle.read.specs.Machine.{slot_count, no_slot, underway, is_gone, place}
 use Rattle.read.specs.Handles.{smallest, freed, bit}
 use Rattle.read.specs.Calls.{Lent, lent, slot_at}
@@ -304,7 +304,7 @@ module _ {w : World} {a : Account} (tie : Tie w a) where
     meets_is : meets_reader a ≡ (polls c.phase && holds (slot c.phase) (snap_of c.phase))
     meets_is = ap met_by (tie.steers.left ∙ (plan_head c (whole tie) u).1) ∙ meets_at a st tie.reads c.phase
 
-    answer_is : smallest (step_signs 12 c) ≡ Admitted → number (after c.phase).answer ≡ wanted a Step
+    answer_is : smallest (step_signs 12 c) ≡ Ok tt → number (after c.phase).answer ≡ wanted a Step
     answer_is v =
         ap number (step_answer c (slot c.phase) (snap_of c.phase) w.left w.right w.log c.phase)
         ∙ outcome_is c.phase c.job a.trial _ u tie.steers.tries tie.steers.stands.last
@@ -346,7 +346,7 @@ module _ {w : World} {a : Account} (tie : Tie w a) where
           own = tie.own;
         }
 
-    advanced_right : smallest (step_signs 12 c) ≡ Admitted → (m : Lent Moved) → m ≡ step_at c.phase c (slot c.phase) (snap_of c.phase) w.left w.right w.log →
+    advanced_right : smallest (step_signs 12 c) ≡ Ok tt → (m : Lent Moved) → m ≡ step_at c.phase c (slot c.phase) (snap_of c.phase) w.left w.right w.log →
         Stepped c (slot c.phase) (snap_of c.phase) w.left w.right w.log m → Right a Step (lift (place c.phase) st m)
     advanced_right v m e (done q) =
         let z : number (after c.phase).answer ≡ 0 = ap (λ (x : Lent Moved). number x.made.answer) (sym e) ∙ ap number q in

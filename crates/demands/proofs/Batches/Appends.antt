@@ -17,9 +17,10 @@ use Rattle.table.proofs.Split.{by}
 use Rattle.read.specs.declared.Slot.{Slot}
 use Rattle.read.specs.declared.Control.{Control}
 use Rattle.read.specs.declared.State.{State}
-use Rattle.read.specs.declared.Verdict.TheVariants.{Admitted}
+use Rattle.std.specs.Prelude.{Ok}
 use Rattle.read.specs.Machine.{log_room, no_slot, judged, orderly, with_reading}
-use Rattle.read.specs.Handles.{Sign, smallest, with_due}
+use Rattle.read.specs.declared.Sign.{Sign}
+use Rattle.read.specs.Handles.{smallest, with_due}
 use Rattle.read.specs.Calls.{Lent, slot_at}
 use Rattle.read.specs.declared.Reply.{Reply}
 use Rattle.read.proofs.Verdicts.{silent, refused_mild}
@@ -46,7 +47,7 @@ signs_of os c s = writer_signs 7 (not (lawful_batch os)) (crowds (length os) c) 
 record Admits (os : List Op) (w : World) : Type 0 where
   good : Good Fit w.state.control w.left w.right w.log
   ordered : orderly w.state ≡ true
-  signs : smallest (signs_of os w.state.control (slot_at w.state 0)) ≡ Admitted
+  signs : smallest (signs_of os w.state.control (slot_at w.state 0)) ≡ Ok tt
 
 made_admits : (os : List Op) (w : World) → answer_of (reply call_rule (Append os) w) ≡ 0 → Admits os w
 unfolding call_rule call_on append_by
@@ -120,7 +121,7 @@ module _ (o : Op) (os : List Op) (w : World) (h : Admits (o ∷ os) w) where
 
   -- some of them, n being logged before, with as much due and open in slot 0
   admits_some : (ps : List Op) → lawful_batch ps ≡ true → (n : ℕ) → n + length ps ≤ c.length + suc (length os) →
-      (t : Slot) → (t.due ≡ s.due) × (t.guards ≡ s.guards) → smallest (signs_of ps (with_log n c.swapped c) t) ≡ Admitted
+      (t : Slot) → (t.due ≡ s.due) × (t.guards ≡ s.guards) → smallest (signs_of ps (with_log n c.swapped c) t) ≡ Ok tt
   admits_some ps l n le t e =
       let all = silent 11 (signs_of (o ∷ os) c s) h.signs in
       let full = fewer c.first (n + length ps) (c.length + suc (length os)) le all ∙ sym all in
@@ -133,7 +134,7 @@ module _ (o : Op) (os : List Op) (w : World) (h : Admits (o ∷ os) w) where
   admits_rest first q = record { good = stays_good admits_first first q; ordered = in_order first; signs = signs first }
     where
       behind : (n e : ℕ) → n + length os ≤ c.length + suc (length os) →
-          smallest (signs_of os (with_log n c.swapped c) (get_or (set st.slots 0 (with_due e s.due s)) 0 no_slot)) ≡ Admitted
+          smallest (signs_of os (with_log n c.swapped c) (get_or (set st.slots 0 (with_due e s.due s)) 0 no_slot)) ≡ Ok tt
       behind n e le = admits_some os (λ i. lawful_each.0 i && lawful_each.2 i) n le (get_or (set st.slots 0 (with_due e s.due s)) 0 no_slot) (read_again st.slots e)
 
       -- slot 0 is in use as it was
@@ -141,7 +142,7 @@ module _ (o : Op) (os : List Op) (w : World) (h : Admits (o ∷ os) w) where
       in_order true = orderly_stored st 0 _ c _ refl refl refl ∙ h.ordered
       in_order false = orderly_stored st 0 _ _ _ refl refl refl ∙ h.ordered
 
-      signs : (first : Bool) → let x = leaves first (o ∷ []) w in smallest (signs_of os x.state.control (slot_at x.state 0)) ≡ Admitted
+      signs : (first : Bool) → let x = leaves first (o ∷ []) w in smallest (signs_of os x.state.control (slot_at x.state 0)) ≡ Ok tt
       signs true = behind c.length ((s.epoch + 2) % 2 ^ 64) (omega arith)
       signs false = behind (c.length + 1) s.epoch (omega arith)
 

@@ -22,9 +22,8 @@ use Rattle.read.specs.declared.Control.{Control}
 use Rattle.read.specs.declared.State.{State}
 use Rattle.read.specs.declared.Made.{Made}
 use Rattle.read.specs.declared.Reply.{Reply}
-use Rattle.read.specs.declared.Verdict.{Verdict}
-use Rattle.read.specs.declared.Verdict.TheVariants.{Admitted, Refused}
-use Rattle.read.specs.Machine.{slot_count, first_unlawful, glanced, judged, underway, place, any_open}
+use Rattle.read.specs.Machine.{Verdict, slot_count, first_unlawful, glanced, judged, underway, place, any_open}
+use Rattle.std.specs.Prelude.{Ok, Err}
 use Rattle.read.specs.Handles.{smallest, handle_signs, create_signs, with_due, freed, loaded, went_on, handled, handled_by, handle_on, handle_by, create_on}
 use Rattle.read.specs.Calls.{Lent, lent, slot_at, reply_of, through_guard, through_rule}
 use Rattle.read.proofs.Orderly.{orderly_stored}
@@ -47,9 +46,9 @@ module _ {A B : Type 0} (f : A → B) where
   test_same false p q = q
 
   verdict_same : (v : Verdict) {x u : A} {y t : Answer → A} → f x ≡ f u → ((a : Answer) → f (y a) ≡ f (t a)) →
-      f (elim v [ Admitted ↦ x | Refused a ↦ y a ]) ≡ f (elim v [ Admitted ↦ u | Refused a ↦ t a ])
-  verdict_same Admitted p q = p
-  verdict_same (Refused a) p q = q a
+      f (elim v [ Ok _ ↦ x | Err a ↦ y a ]) ≡ f (elim v [ Ok _ ↦ u | Err a ↦ t a ])
+  verdict_same (Ok _) p q = p
+  verdict_same (Err a) p q = q a
 
 -- ---- what is put aside: of a slot, of what comes of a call on it, and of what comes of a call
 
@@ -142,15 +141,15 @@ module _ (c : Control) (s : Slot) (ss : List Slot) (e : ℕ) (es l r g : List �
       ap
       (λ (b : Bool).
       elim (glanced c l r g) [
-        | Admitted ↦ elim (leb n (first_unlawful n g) && b) [ true ↦ Admitted | false ↦ Refused answer.Broken ]
-        | Refused a ↦ Refused a
+        | Ok _ ↦ elim (leb n (first_unlawful n g) && b) [ true ↦ Ok tt | false ↦ Err answer.Broken ]
+        | Err a ↦ Err a
       ])
       (sym (orderly_stored full 0 (hide s) c (0 ∷ es) refl refl refl))
 
   pub shown_same : (i j : ℕ) → through_rule i j l r g full ≡ through_rule i j l r g bare
   unfolding through_rule
-  shown_same zero j = ap (λ (v : Verdict). elim v [ Admitted ↦ through_guard 0 j l r full | Refused a ↦ [] ]) judged_same
-  shown_same (suc i) j = ap (λ (v : Verdict). elim v [ Admitted ↦ through_guard (suc i) j l r full | Refused a ↦ [] ]) judged_same
+  shown_same zero j = ap (λ (v : Verdict). elim v [ Ok _ ↦ through_guard 0 j l r full | Err a ↦ [] ]) judged_same
+  shown_same (suc i) j = ap (λ (v : Verdict). elim v [ Ok _ ↦ through_guard (suc i) j l r full | Err a ↦ [] ]) judged_same
 
   -- ---- a step of the writer changes no epoch, so they stay aside
 

@@ -5,7 +5,7 @@ use mathlib.Core.Bool.{Bool, true, false, not}
 use lib.Dec.{eqb}
 use Rattle.read.specs.declared.Control.{Control}
 use Rattle.read.specs.declared.Reply.{Reply}
-use Rattle.read.specs.declared.Verdict.TheVariants.{Admitted}
+use Rattle.std.specs.Prelude.{Ok}
 use Rattle.read.specs.Machine.{underway}
 use Rattle.read.specs.Admission.{entry, not_now}
 use Rattle.read.specs.Handles.{smallest}
@@ -23,7 +23,7 @@ use Rattle.demands.proofs.Phases.{phase_of}
 -- a column that asks for a call under way, as step's and run's
 admitted :
     (column : ℕ) (c : Control) → entry c.phase column ≡ not_now (not (underway c.phase)) → underway c.phase ≡ true →
-    smallest (step_signs column c) ≡ Admitted
+    smallest (step_signs column c) ≡ Ok tt
 unfolding smallest
 admitted column c e u =
     let timely : eqb (entry c.phase column) 6 ≡ false = ap (λ (n : ℕ). eqb n 6) (e ∙ ap (λ (b : Bool). not_now (not b)) u) in

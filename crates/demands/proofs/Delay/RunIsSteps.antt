@@ -7,9 +7,8 @@ use native.Mathlib.Omega.{arith}
 use Rattle.table.proofs.Split.{split}
 use Rattle.table.proofs.Booleans.{clash}
 use Rattle.read.specs.declared.Reply.{Reply}
-use Rattle.read.specs.declared.Verdict.{Verdict}
-use Rattle.read.specs.declared.Verdict.TheVariants.{Admitted, Refused}
-use Rattle.read.specs.Machine.{underway, place}
+use Rattle.read.specs.Machine.{Verdict, underway, place}
+use Rattle.std.specs.Prelude.{Ok, Err}
 use Rattle.read.specs.Admission.{entry}
 use Rattle.read.specs.Handles.{smallest}
 use Rattle.read.specs.Calls.{Lent, slot_at}
@@ -52,8 +51,8 @@ refused_alike :
     (w : World) (v : Verdict) → smallest (step_signs 12 w.state.control) ≡ v → underway (phase_of w) ≡ false →
     (reply call_on Run w ≡ reply call_on Step w) × (value_of (reply call_on Run w) ≡ 0) × (answer_of (reply call_on Run w) ≢ 0)
 unfolding call_on entry
-refused_alike w Admitted e u = clash (step_underway w.state.control e) u
-refused_alike w (Refused a) e u =
+refused_alike w (Ok _) e u = clash (step_underway w.state.control e) u
+refused_alike w (Err a) e u =
     let x = refused_mild (step_signs 12 w.state.control) refl a e in
     rw (e, going) (refl, refl, λ z. omega arith)
 

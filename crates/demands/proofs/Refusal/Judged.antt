@@ -17,9 +17,8 @@ use Rattle.table.proofs.Booleans.{both}
 use Rattle.read.proofs.Same.{equal_same}
 use Rattle.read.specs.declared.Control.{Control}
 use Rattle.read.specs.declared.State.{State}
-use Rattle.read.specs.declared.Verdict.{Verdict}
-use Rattle.read.specs.declared.Verdict.TheVariants.{Admitted, Refused}
-use Rattle.read.specs.Machine.{log_room, log_words, in_range, first_unlawful, sized, whole_control, orderly, glanced, judged}
+use Rattle.read.specs.Machine.{Verdict, log_room, log_words, in_range, first_unlawful, sized, whole_control, orderly, glanced, judged}
+use Rattle.std.specs.Prelude.{Ok, Err}
 use Rattle.read.specs.Calls.{lent, refusal}
 use Rattle.read.proofs.Cases.{sized_lengths as lengths}
 use Rattle.write.specs.Call.{Call}
@@ -34,10 +33,10 @@ use Rattle.demands.proofs.Refusal.Ordered.{ordered, orderly_is}
 -- ---- the judgement
 
 abbrev glance : Bool → Bool → Verdict
-glance s x = elim s [ true ↦ elim x [ true ↦ Admitted | false ↦ Refused answer.Broken ] | false ↦ Refused answer.Length ]
+glance s x = elim s [ true ↦ elim x [ true ↦ Ok tt | false ↦ Err answer.Broken ] | false ↦ Err answer.Length ]
 
 abbrev verdict : Bool → Bool → Bool → Verdict
-verdict s x y = elim (glance s x) [ Admitted ↦ elim y [ true ↦ Admitted | false ↦ Refused answer.Broken ] | Refused a ↦ Refused a ]
+verdict s x y = elim (glance s x) [ Ok _ ↦ elim y [ true ↦ Ok tt | false ↦ Err answer.Broken ] | Err a ↦ Err a ]
 
 pub sized_lengths : {l r g : List ℕ} → sized l r g ≡ true → Lengths l r g
 sized_lengths {l} {r} {g} e = let s = lengths l r g e in record { left = s.left; right = s.right; log = s.log }
@@ -47,8 +46,8 @@ lengths_sized {l} {r} {g} h = λ i. eq-eqb (length l) words h.left i && (eq-eqb 
 
 -- a refusal is not answered 0
 abbrev pub Grave : Verdict → Type 0
-Grave Admitted = Unit {0}
-Grave (Refused a) = 1 ≤ number a
+Grave (Ok _) = Unit {0}
+Grave (Err a) = 1 ≤ number a
 
 pub judged_grave : (st : State) (l r g : List ℕ) → Grave (judged st l r g)
 unfolding judged glanced
@@ -82,7 +81,7 @@ module _ (k : Call) (w : World) where
   unfolding judged glanced
   v_is = refl
 
-  is_fit : v ≡ Admitted → Fit w
+  is_fit : v ≡ Ok tt → Fit w
   is_fit e =
       let g = judged_good w.state w.left w.right w.log e in
       let a = both (leb c.length log_room) _ (whole_control_lem c g.whole) in
@@ -99,7 +98,7 @@ module _ (k : Call) (w : World) where
         ordered = ordered w.state (judged_orderly w.state w.left w.right w.log e);
       }
 
-  fit_is : Sized w → Fit w → v ≡ Admitted
+  fit_is : Sized w → Fit w → v ≡ Ok tt
   fit_is s f =
       good_judged w.state w.left w.right w.log
       (record {
@@ -115,15 +114,15 @@ module _ (k : Call) (w : World) where
       })
       (orderly_is w.state f.ordered)
 
-  refused_by : (a : Answer) → v ≡ Refused a → answer_of (reply call_rule k w) ≡ number a
+  refused_by : (a : Answer) → v ≡ Err a → answer_of (reply call_rule k w) ≡ number a
   unfolding call_rule
   refused_by a e =
-      ap (λ (x : Verdict). answer_of (elim x [ Admitted ↦ call_on k w.state w.left w.right w.log | Refused b ↦ lent (refusal b w.state) w.left w.right w.log ])) e
+      ap (λ (x : Verdict). answer_of (elim x [ Ok _ ↦ call_on k w.state w.left w.right w.log | Err b ↦ lent (refusal b w.state) w.left w.right w.log ])) e
 
-  admitted_by : v ≡ Admitted → answer_of (reply call_rule k w) ≡ answer_of (reply call_on k w)
+  admitted_by : v ≡ Ok tt → answer_of (reply call_rule k w) ≡ answer_of (reply call_on k w)
   unfolding call_rule
   admitted_by e =
-      ap (λ (x : Verdict). answer_of (elim x [ Admitted ↦ call_on k w.state w.left w.right w.log | Refused b ↦ lent (refusal b w.state) w.left w.right w.log ])) e
+      ap (λ (x : Verdict). answer_of (elim x [ Ok _ ↦ call_on k w.state w.left w.right w.log | Err b ↦ lent (refusal b w.state) w.left w.right w.log ])) e
 
   pub unsized_1 : ¬ (Sized w) → answer_of (reply call_rule k w) ≡ 1
   unsized_1 n =
@@ -135,7 +134,7 @@ module _ (k : Call) (w : World) where
       let e = v_is ∙ ap (λ (b : Bool). verdict b counts last) (lengths_sized s) in
       refused_by answer.Broken (go counts last e)
     where
-      go : (x y : Bool) → v ≡ verdict true x y → v ≡ Refused answer.Broken
+      go : (x y : Bool) → v ≡ verdict true x y → v ≡ Err answer.Broken
       go true true e = absurd (n (is_fit e))
       go true false e = e
       go false y e = e

@@ -12,14 +12,13 @@ use Rattle.table.specs.Copy.{words, zeros, entries, lawful}
 use Rattle.table.specs.Answers.{number}
 use Rattle.table.specs.Order.{Op}
 use Rattle.read.specs.declared.Guard.{Guard}
-use Rattle.read.specs.declared.Link.TheVariants.{Fresh, To}
+use Rattle.std.specs.Prelude.{None, Some, Ok, Err}
 use Rattle.read.specs.declared.Job.TheVariants.{Try}
 use Rattle.read.specs.declared.Slot.{Slot}
 use Rattle.read.specs.declared.Phase.{Phase}
 use Rattle.read.specs.declared.Phase.TheVariants.{Idle, Poll, Swap, Null}
 use Rattle.read.specs.declared.Control.{Control}
 use Rattle.read.specs.declared.State.{State}
-use Rattle.read.specs.declared.Verdict.TheVariants.{Admitted, Refused}
 use Rattle.read.specs.declared.Reply.{Reply}
 use Rattle.read.specs.Machine.{slot_count, with_use, with_reading, holding, with_free, log_room, shut, put_guard, same, new_slot, sized, judged, fresh, row, place}
 use Rattle.read.specs.Handles.{smallest, with_due, freed}
@@ -47,7 +46,7 @@ step_by f st l r g =
     lift i st (f c.phase c (slot_at st i) (snap_at st i) l r g)
 
 abbrev pub judging : (State → List ℕ → List ℕ → List ℕ → Lent Reply) → State → List ℕ → List ℕ → List ℕ → Lent Reply
-judging rule st l r g = elim (judged st l r g) [ Admitted ↦ rule st l r g | Refused a ↦ lent (refusal a st) l r g ]
+judging rule st l r g = elim (judged st l r g) [ Ok _ ↦ rule st l r g | Err a ↦ lent (refusal a st) l r g ]
 
 unfoldable pub with_step : Stepper → Machine
 with_step f Create st l r g = call_rule Create st l r g
@@ -381,11 +380,11 @@ shows_empty = changing call_rule 6 0 (λ k. revalued 0)
 -- those that were freed, from k on, n at most; and behind them the lowest never used
 abbrev pub freed_from : ℕ → ℕ → State → List ℕ
 freed_from zero k st = []
-freed_from (suc n) k st = elim (slot_at st k).link [ Fresh ↦ [] | To j ↦ k ∷ freed_from n j st ]
+freed_from (suc n) k st = elim (slot_at st k).link [ None ↦ [] | Some j ↦ k ∷ freed_from n j st ]
 
 abbrev pub new_from : ℕ → ℕ → State → ℕ
 new_from zero k st = k
-new_from (suc n) k st = elim (slot_at st k).link [ Fresh ↦ k | To j ↦ new_from n j st ]
+new_from (suc n) k st = elim (slot_at st k).link [ None ↦ k | Some j ↦ new_from n j st ]
 
 abbrev pub freed_in : State → List ℕ
 freed_in st = freed_from slot_count st.control.free st
@@ -533,7 +532,7 @@ testing test =
     let e = snap_at st 0 in
     lift 0 st
     (elim (smallest (writer_signs 7 (not (test os)) (crowds (length os) c) c s))
-    [ Admitted ↦ appended Walk c.first os c s e l r g | Refused a ↦ lent (refused a c s e) l r g ])))
+    [ Ok _ ↦ appended Walk c.first os c s e l r g | Err a ↦ lent (refused a c s e) l r g ])))
 
 -- one more than there is room for is taken
 abbrev pub takes_more : Machine

@@ -11,12 +11,10 @@ use Rattle.table.specs.Seek.{seek}
 use Rattle.table.specs.Order.{op}
 use Rattle.table.proofs.Booleans.{clash}
 use Rattle.table.proofs.Computes.{apart}
-use Rattle.read.specs.declared.Link.TheVariants.{To}
+use Rattle.std.specs.Prelude.{Some, Ok, Err}
 use Rattle.read.specs.declared.Slot.{Slot}
 use Rattle.read.specs.declared.State.{State}
-use Rattle.read.specs.declared.Verdict.{Verdict}
-use Rattle.read.specs.declared.Verdict.TheVariants.{Admitted, Refused}
-use Rattle.read.specs.Machine.{slot_count, no_slot, new_slot, with_use, with_free, behind, free_below, walk, orderly, first_unlawful, glanced, judged, fresh, place}
+use Rattle.read.specs.Machine.{Verdict, slot_count, no_slot, new_slot, with_use, with_free, behind, free_below, walk, orderly, first_unlawful, glanced, judged, fresh, place}
 use Rattle.read.specs.Calls.{lent, with_slot, refusal}
 use Rattle.write.specs.declared.Opening.TheVariants.{Publish}
 use Rattle.write.specs.Call.{Call, Create, Append, append_one, Step}
@@ -118,13 +116,13 @@ abbrev judged_by : (State → Bool) → State → List ℕ → List ℕ → List
 judged_by test st l r g =
     let n = st.control.length in
     elim (glanced st.control l r g) [
-      | Admitted ↦ elim (leb n (first_unlawful n g) && test st) [ true ↦ Admitted | false ↦ Refused Broken ]
-      | Refused a ↦ Refused a
+      | Ok _ ↦ elim (leb n (first_unlawful n g) && test st) [ true ↦ Ok tt | false ↦ Err Broken ]
+      | Err a ↦ Err a
     ]
 
 abbrev ordering : (State → Bool) → Machine
 ordering test k st l r g =
-    elim (judged_by test st l r g) [ Admitted ↦ call_on k st l r g | Refused a ↦ lent (refusal a st) l r g ]
+    elim (judged_by test st l r g) [ Ok _ ↦ call_on k st l r g | Err a ↦ lent (refusal a st) l r g ]
 
 -- by the rules' own test it is the rules
 pub orderer : (k : Call) (st : State) (l r g : List ℕ) → ordering orderly k st l r g ≡ call_rule k st l r g
@@ -157,11 +155,11 @@ leaves_out =
 
 -- slot 0, which is in use, stands in the place of slot 1
 abbrev used_world : World
-used_world = in_state (with_slot 0 (with_use true (To 2) new_slot) (with_control (with_free 0) fresh))
+used_world = in_state (with_slot 0 (with_use true (Some 2) new_slot) (with_control (with_free 0) fresh))
 
 -- slot 1 comes behind itself
 abbrev round_world : World
-round_world = in_state (with_slot 1 (with_use false (To 1) no_slot) fresh)
+round_world = in_state (with_slot 1 (with_use false (Some 1) no_slot) fresh)
 
 -- slot 2 comes first, and slot 1 never
 abbrev out_world : World

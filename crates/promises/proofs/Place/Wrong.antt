@@ -8,7 +8,7 @@ use Rattle.table.specs.Answers.{number}
 use Rattle.table.proofs.Computes.{apart}
 use Rattle.table.specs.declared.Answer.TheVariants.{Done, NoGuard}
 use Rattle.read.specs.declared.Slot.{Slot}
-use Rattle.read.specs.declared.Link.TheVariants.{Fresh}
+use Rattle.std.specs.Prelude.{None}
 use Rattle.read.specs.Machine.{with_use, is_open, with_reading, shut}
 use Rattle.read.specs.Handles.{released}
 use Rattle.read.proofs.Computes.{rules}
@@ -66,7 +66,7 @@ serves_free guard s = release_rule guard (with_use true s.link s)
 
 serves_free_wrong : (k : Function) → Promise k serves_free → ⊥
 unfolding release_rule rules
-serves_free_wrong k h = apart (λ r. number r.answer) refl (says k serves_free h 0 (with_use false Fresh inside) refl)
+serves_free_wrong k h = apart (λ r. number r.answer) refl (says k serves_free h 0 (with_use false None inside) refl)
 
 -- a free record with a closed guard is answered 9, and not the smaller number
 abbrev guard_first : ℕ → Slot → Released
@@ -74,4 +74,4 @@ guard_first guard s = elim (is_open s.guards guard) [ true ↦ release_rule guar
 
 guard_first_wrong : (k : Function) → Promise k guard_first → ⊥
 unfolding release_rule rules
-guard_first_wrong k h = apart (λ r. number r.answer) refl (says k guard_first h 1 (with_use false Fresh inside) refl)
+guard_first_wrong k h = apart (λ r. number r.answer) refl (says k guard_first h 1 (with_use false None inside) refl)

@@ -18,7 +18,8 @@ use Rattle.read.proofs.guards.is_due.Reads as guards_is_due
 use Rattle.read.proofs.guards.freed.Reads as guards_freed
 use Rattle.read.proofs.guards.released.Reads as guards_released
 use Rattle.read.proofs.truth.either.Reads as either
-use Rattle.read.proofs.handles.given.Reads as given
+use Rattle.read.proofs.handles.sign.Reads as sign
+use Rattle.read.proofs.handles.smallest.Reads as smallest
 use Rattle.read.proofs.admission.locks.Reads as locks
 use Rattle.machine.proofs.start.Reads as start
 use Rattle.machine.proofs.create.Reads as create
@@ -26,7 +27,6 @@ use Rattle.machine.proofs.drop.Reads as drop
 use Rattle.machine.proofs.enter.Reads as enter
 use Rattle.machine.proofs.go_on.Reads as go_on
 use Rattle.read.proofs.handles.handle_by.Reads as handles_handle_by
-use Rattle.read.proofs.handles.handle.Reads as handles_handle
 use Rattle.read.proofs.handles.create.Reads as handles_create
 use Rattle.read.proofs.order.orderly.Reads as orderly
 use Rattle.machine.proofs.release.Reads as release
@@ -90,8 +90,11 @@ guards_released_determined κs a r q s t h l = h ∙ sym l
 handles_guarded_copy_determined : DeterminesWords guarded_copy.Post
 handles_guarded_copy_determined κs a r q s t h l = h ∙ sym l
 
-given_determined : Determines given.Post
-given_determined κs a r q s t h l = h ∙ sym l
+sign_determined : Determines sign.Post
+sign_determined κs a r q s t h l = h ∙ sym l
+
+smallest_determined : Determines smallest.Post
+smallest_determined κs a r q s t h l = h ∙ sym l
 
 either_determined : Determines either.Post
 either_determined κs a r q s t h l = h ∙ sym l
@@ -129,9 +132,6 @@ go_on_determined κs a r q s t h l = h ∙ sym l
 
 handles_handle_by_determined : Determines handles_handle_by.Post
 handles_handle_by_determined κs a r q s t h l = h ∙ sym l
-
-handles_handle_determined : Determines handles_handle.Post
-handles_handle_determined κs a r q s t h l = h ∙ sym l
 
 handles_create_determined : Determines handles_create.Post
 handles_create_determined κs a r q s t h l = h ∙ sym l

@@ -5,21 +5,22 @@ use mathlib.Core.List.{List}
 use Rattle.promises.proofs.Contracts.{typed, Words, ref, Refs, lends, mut_refs, mut_lends, κ₁, κ₂, κ₃, Leaves, Keeps, Keeps1, Keeps2}
 use Rattle.table.specs.declared.Answer.{Answer}
 use Rattle.table.specs.declared.Search.{Search}
-use Rattle.table.specs.Copy.{look_by}
+use Rattle.table.specs.declared.Search.TheVariants.{Walk}
+use Rattle.table.specs.Copy.{look_by, look_rule}
 use Rattle.read.specs.declared.Due.{Due}
 use Rattle.read.specs.declared.Guard.{Guard}
+use Rattle.read.specs.declared.Sign.{Sign}
 use Rattle.read.specs.declared.Slot.{Slot}
 use Rattle.read.specs.declared.Phase.{Phase}
 use Rattle.read.specs.declared.Control.{Control}
 use Rattle.read.specs.declared.State.{State}
 use Rattle.read.specs.declared.Handle.{Handle}
-use Rattle.read.specs.declared.Verdict.{Verdict}
+use Rattle.read.specs.Machine.{Verdict, same, is_open, first_guard, any_open, all_open, is_due, is_load, no_slot, new_slot, locks, sized, orderly, judged, row, fresh}
 use Rattle.read.specs.declared.Made.{Made}
 use Rattle.read.specs.declared.Reply.{Reply}
 use Rattle.read.specs.declared.Handle.TheVariants.{Drop, Enter, GoOn, Release, LookUp, WasDropped}
-use Rattle.read.specs.Machine.{same, is_open, first_guard, any_open, all_open, is_due, is_load, no_slot, new_slot, locks, sized, orderly, judged, row, fresh}
 use Rattle.read.specs.Admission.{entry}
-use Rattle.read.specs.Handles.{given, smallest, handle_signs, freed, entered, went_on, released, guarded_copy, handle_by, handle_on, create_on}
+use Rattle.read.specs.Handles.{sign, smallest, handle_signs, freed, entered, went_on, released, guarded_copy, handle_by, handle_on, create_on}
 use Rattle.read.specs.Calls.{Lent, slot_at, handle_rule, create_rule, view_rule, pair_rule, start_rule}
 use Rattle.read.proofs
 use Rattle.machine.proofs as whole
@@ -82,10 +83,12 @@ ReleasedPromise = Keeps2 (typed tt proofs.guards.released.Kinds.ps) (proofs.guar
 
 -- ---- a call on a handle, on its slot
 
-abbrev pub GivenPromise : (Bool → Answer → Verdict → Verdict) → Type 0
-GivenPromise f =
-    (b : Bool) (a : Answer) (v : Verdict) →
-    Keeps (typed tt proofs.handles.given.Kinds.ps) (proofs.handles.given.Reads.Post tt) (b, (a, (v, tt))) (f b a v)
+abbrev pub SignPromise : (Answer → Bool → Sign) → Type 0
+SignPromise = Keeps2 (typed tt proofs.handles.sign.Kinds.ps) (proofs.handles.sign.Reads.Post tt)
+
+abbrev pub SmallestPromise : (List Sign → Verdict) → Type 0
+SmallestPromise f =
+    (xs : List Sign) → Keeps (typed κ₁ proofs.handles.smallest.Kinds.ps) (proofs.handles.smallest.Reads.Post κ₁) (ref xs, tt) (f xs)
 
 abbrev pub VerdictPromise : (Control → Bool → Slot → Handle → Verdict) → Type 0
 VerdictPromise f =
@@ -98,11 +101,12 @@ GuardedCopyPromise f =
     Keeps (typed κ₁ proofs.handles.guarded_copy.Kinds.ps) (proofs.handles.guarded_copy.Reads.Post κ₁)
     (gs, (j, (ref l.list, (ref r.list, tt)))) (ref (f gs j l.list r.list))
 
+-- in any words: the first pair that has the key
 abbrev pub HandlePromise : (Control → ℕ → Slot → Handle → List ℕ → List ℕ → Made) → Type 0
 HandlePromise f =
     (c : Control) (i : ℕ) (s : Slot) (h : Handle) (l r : Words) →
-    Keeps (typed κ₁ proofs.handles.handle.Kinds.ps) (proofs.handles.handle.Reads.Post κ₁)
-    (c, (i, (s, (h, (ref l.list, (ref r.list, tt)))))) (f c i s h l.list r.list)
+    Keeps (typed κ₁ proofs.handles.handle_by.Kinds.ps) (proofs.handles.handle_by.Reads.Post κ₁)
+    (Walk, (c, (i, (s, (h, (ref l.list, (ref r.list, tt))))))) (f c i s h l.list r.list)
 
 abbrev pub HandleByPromise : (Search → Control → ℕ → Slot → Handle → List ℕ → List ℕ → Made) → Type 0
 HandleByPromise f =
@@ -209,7 +213,7 @@ pub kept :
     FreshPromise fresh × SlotAtPromise slot_at × RowPromise row × EntryPromise entry × FirstGuardPromise first_guard × IsOpenPromise is_open
     × AnyOpenPromise any_open × AllOpenPromise all_open × IsDuePromise is_due × IsLoadPromise is_load × NoSlotPromise no_slot
     × NewSlotPromise new_slot × FreedPromise freed × EnteredPromise entered × WentOnPromise (λ c s. went_on c s.due s)
-    × ReleasedPromise released × GivenPromise given × VerdictPromise (λ c own s h. smallest (handle_signs c own s h)) × GuardedCopyPromise guarded_copy × HandlePromise handle_on × HandleByPromise (λ how. handle_by (look_by how))
+    × ReleasedPromise released × SignPromise sign × SmallestPromise smallest × VerdictPromise (λ c own s h. smallest (handle_signs c own s h)) × GuardedCopyPromise guarded_copy × HandlePromise handle_on × HandleByPromise (λ how. handle_by (look_by how))
     × CreateOnPromise create_on × OrderlyPromise orderly
     × EitherPromise ◌||◌ × LocksPromise locks × SamePromise same
     × SizedPromise sized × JudgePromise judged × StartPromise start_rule × CreatePromise create_rule
@@ -217,4 +221,5 @@ pub kept :
     × WasDroppedPromise (λ i. handle_rule i WasDropped) × OnHandlePromise handle_rule
     × ReleasePromise (λ i j. handle_rule i (Release j)) × LookUpPromise (λ i j key. handle_rule i (LookUp j key))
     × ViewPromise view_rule × PairPromise pair_rule
+unfolding look_by look_rule
 kept = search

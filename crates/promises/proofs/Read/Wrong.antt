@@ -14,7 +14,8 @@ use Rattle.table.specs.declared.Answer.TheVariants as answer
 use Rattle.read.specs.declared.Due.{Due}
 use Rattle.read.specs.declared.Due.TheVariants.{Nothing, Load, Restore}
 use Rattle.read.specs.declared.Guard.{Guard}
-use Rattle.read.specs.declared.Link.TheVariants.{To}
+use Rattle.std.specs.Prelude.{Some, Ok, Err}
+use Rattle.read.specs.declared.Sign.{Sign}
 use Rattle.read.specs.declared.Slot.{Slot}
 use Rattle.read.specs.declared.Job.TheVariants.{Publish}
 use Rattle.read.specs.declared.Phase.{Phase}
@@ -23,33 +24,25 @@ use Rattle.read.specs.declared.Control.{Control}
 use Rattle.read.specs.declared.State.{State}
 use Rattle.read.specs.declared.Handle.{Handle}
 use Rattle.read.specs.declared.Handle.TheVariants.{Drop, Enter, GoOn, Release, LookUp, WasDropped}
-use Rattle.read.specs.declared.Verdict.{Verdict}
-use Rattle.read.specs.declared.Verdict.TheVariants.{Admitted, Refused}
+use Rattle.read.specs.Machine.{Verdict, standing, holding, open_on, with_use, with_reading, slot_count, guard_count, log_words, shut, no_guards, is_open, stands_right, put_guard, same, first_guard, any_open, all_open, is_due, is_load, no_slot, new_slot, is_gone, underway, whole_control, with_free, behind, free_below, orderly, first_unlawful, glanced, judged, fresh, row}
 use Rattle.read.specs.declared.Made.{Made}
 use Rattle.read.specs.declared.Reply.{Reply}
-use Rattle.read.specs.Machine.{standing, holding, open_on, with_use, with_reading, slot_count, guard_count, log_words, shut, no_guards, is_open, stands_right, put_guard, same, first_guard, any_open, all_open, is_due, is_load, no_slot, new_slot, is_gone, underway, whole_control, with_free, behind, free_below, orderly, first_unlawful, glanced, judged, fresh, row}
 use Rattle.read.specs.Admission.{handle_number, entry}
-use Rattle.read.specs.Handles.{mistimed, smallest, handle_signs, made_of, bumped, with_due, freed, loaded, entered, went_on, released, copy_of, bit, handle_by, handle_on, create_on}
+use Rattle.read.specs.Handles.{mistimed, sign, smallest, handle_signs, made_of, bumped, with_due, freed, loaded, entered, went_on, released, copy_of, bit, handle_by, handle_on, create_on}
 use Rattle.read.specs.Calls.{slot_at, with_slot, refusal, reply_of, Lent, lent, handle_reply, handle_rule, create_rule, view_rule, pair_rule, start_rule}
 use Rattle.table.proofs.Computes.{apart}
 use Rattle.promises.proofs.Witnesses.{copy, none, seven, falls, no_log, inside, word_at, itself}
 use Rattle.promises.proofs.Contracts.{Words, slice}
 use Rattle.read.proofs.Computes.{rules}
-use Rattle.promises.proofs.Read.Promises.{FreshPromise, SlotAtPromise, RowPromise, EntryPromise, FirstGuardPromise, IsOpenPromise}
-use Rattle.promises.proofs.Read.Promises.{AnyOpenPromise, AllOpenPromise, IsDuePromise, IsLoadPromise, NoSlotPromise, NewSlotPromise}
-use Rattle.promises.proofs.Read.Promises.{FreedPromise, EnteredPromise, WentOnPromise, ReleasedPromise, VerdictPromise, GuardedCopyPromise}
-use Rattle.promises.proofs.Read.Promises.{HandlePromise, HandleByPromise, CreateOnPromise, OrderlyPromise, GivenPromise, EitherPromise, LocksPromise, SamePromise}
-use Rattle.promises.proofs.Read.Promises.{SizedPromise, JudgePromise, StartPromise, CreatePromise, DropPromise, EnterPromise}
-use Rattle.promises.proofs.Read.Promises.{GoOnPromise, WasDroppedPromise, OnHandlePromise, ReleasePromise, LookUpPromise, ViewPromise}
-use Rattle.promises.proofs.Read.Promises.{PairPromise}
+use Rattle.promises.proofs.Read.Promises.{FreshPromise, SlotAtPromise, RowPromise, EntryPromise, FirstGuardPromise, IsOpenPromise, AnyOpenPromise, AllOpenPromise, IsDuePromise, IsLoadPromise, NoSlotPromise, NewSlotPromise, FreedPromise, EnteredPromise, WentOnPromise, ReleasedPromise, VerdictPromise, GuardedCopyPromise, HandlePromise, HandleByPromise, CreateOnPromise, OrderlyPromise, SignPromise, SmallestPromise, EitherPromise, LocksPromise, SamePromise, SizedPromise, JudgePromise, StartPromise, CreatePromise, DropPromise, EnterPromise, GoOnPromise, WasDroppedPromise, OnHandlePromise, ReleasePromise, LookUpPromise, ViewPromise, PairPromise}
 use Rattle.read.proofs.Cases.{state_of, with_lock}
 
 -- ---- what the witnesses are made of
 
 -- what is read off a result
 abbrev verdict : Verdict → ℕ
-verdict Admitted = 0
-verdict (Refused a) = number a
+verdict (Ok _) = 0
+verdict (Err a) = number a
 
 abbrev opens : ℕ → Slot → ℕ
 opens j s = bit (is_open s.guards j)
@@ -265,7 +258,7 @@ drops_epoch_wrong h = apart (λ s. s.epoch) refl (h 2 (slot_with 4 no_guards Not
 
 -- drop leaves the slot in use
 abbrev stays_used : ℕ → Slot → Slot
-stays_used k s = with_use true (To k) s
+stays_used k s = with_use true (Some k) s
 
 stays_used_wrong : FreedPromise stays_used → ⊥
 stays_used_wrong h = apart (λ s. bit s.used) refl (h 2 new_slot refl)
@@ -378,23 +371,41 @@ free_serves_wrong h = apart verdict refl (h idle false no_slot Enter refl)
 
 -- a larger number wins
 abbrev larger : Judgement
-larger c own s h = elim (mistimed (handle_number h) s.due) [ true ↦ Refused answer.NotNow | false ↦ smallest (handle_signs c own s h) ]
+larger c own s h = elim (mistimed (handle_number h) s.due) [ true ↦ Err answer.NotNow | false ↦ smallest (handle_signs c own s h) ]
 
 larger_wrong : VerdictPromise larger → ⊥
 unfolding rules
 larger_wrong h = apart verdict refl (h idle false (with_reading 1 no_guards Load no_slot) Enter refl)
 
 -- nothing speaks against a call
-admits_all_wrong : VerdictPromise (λ c own s h. Admitted) → ⊥
+admits_all_wrong : VerdictPromise (λ c own s h. Ok tt) → ⊥
 unfolding rules
 admits_all_wrong h = apart verdict refl (h idle false no_slot Enter refl)
 
--- a sign that applies is passed over; one that does not is given
-given_over_wrong : GivenPromise (λ b a v. v) → ⊥
-given_over_wrong h = apart verdict refl (h true answer.Gone Admitted refl)
+-- a sign that applies does not; one that does not applies
+sign_over_wrong : SignPromise (λ a b. sign a false) → ⊥
+sign_over_wrong h = apart (λ x. bit x.applies) refl (h answer.Gone true refl)
 
-given_always_wrong : GivenPromise (λ b a v. Refused a) → ⊥
-given_always_wrong h = apart verdict refl (h false answer.Gone Admitted refl)
+sign_always_wrong : SignPromise (λ a b. sign a true) → ⊥
+sign_always_wrong h = apart (λ x. bit x.applies) refl (h answer.Gone false refl)
+
+-- a sign that applies is passed over
+abbrev passes_first : List Sign → Verdict
+passes_first [] = Ok tt
+passes_first (x ∷ xs) = smallest xs
+
+passes_first_wrong : SmallestPromise passes_first → ⊥
+unfolding smallest
+passes_first_wrong h = apart verdict refl (h (sign answer.Gone true ∷ []) refl)
+
+-- one that does not apply is given
+abbrev gives_first : List Sign → Verdict
+gives_first [] = Ok tt
+gives_first (x ∷ xs) = Err x.answer
+
+gives_first_wrong : SmallestPromise gives_first → ⊥
+unfolding smallest
+gives_first_wrong h = apart verdict refl (h (sign answer.Gone false ∷ []) refl)
 
 -- either is both, or the first alone
 either_both_wrong : EitherPromise ◌&&◌ → ⊥
@@ -437,7 +448,7 @@ sum_sized_wrong h = apart bit refl (h no_log none none refl)
 abbrev judge_by : (State → List ℕ → Bool) → State → List ℕ → List ℕ → List ℕ → Verdict
 judge_by test st l r g =
     elim (glanced st.control l r g)
-    [ Admitted ↦ elim (test st g) [ true ↦ Admitted | false ↦ Refused answer.Broken ] | Refused a ↦ Refused a ]
+    [ Ok _ ↦ elim (test st g) [ true ↦ Ok tt | false ↦ Err answer.Broken ] | Err a ↦ Err a ]
 
 -- a judgement that skips the log
 abbrev skips_log : State → List ℕ → List ℕ → List ℕ → Verdict
@@ -457,7 +468,7 @@ skips_order_judge_wrong h = apart verdict refl (h (first 2 fresh) none none no_l
 
 -- broken is found before the length
 abbrev broken_first : State → List ℕ → List ℕ → List ℕ → Verdict
-broken_first st l r g = elim (whole_control st.control) [ true ↦ judged st l r g | false ↦ Refused answer.Broken ]
+broken_first st l r g = elim (whole_control st.control) [ true ↦ judged st l r g | false ↦ Err answer.Broken ]
 
 broken_first_judge_wrong : JudgePromise broken_first → ⊥
 unfolding rules
@@ -495,7 +506,7 @@ used_comes = order_by (walk_by (λ s. true) at_end)
 
 used_comes_wrong : OrderlyPromise used_comes → ⊥
 unfolding rules
-used_comes_wrong h = apart bit refl (h (first 0 (with_slot 0 (with_use true (To 2) new_slot) fresh)) refl)
+used_comes_wrong h = apart bit refl (h (first 0 (with_slot 0 (with_use true (Some 2) new_slot) fresh)) refl)
 
 -- a slot may come twice: behind slot 2 slot 1 comes again
 abbrev comes_twice : State → Bool
@@ -619,7 +630,7 @@ refuses_all_wrong h = apart answer_of refl (h 1 Enter none none no_log (machine 
 
 -- judged otherwise
 abbrev handles_by : (State → List ℕ → List ℕ → List ℕ → Verdict) → ℕ → Handle → List ℕ → List ℕ → List ℕ → State → Reply
-handles_by judge i h l r g st = elim (judge st l r g) [ Admitted ↦ handle_reply i h l r st | Refused a ↦ refusal a st ]
+handles_by judge i h l r g st = elim (judge st l r g) [ Ok _ ↦ handle_reply i h l r st | Err a ↦ refusal a st ]
 
 skips_log_wrong : OnHandlePromise (handles_by skips_log) → ⊥
 unfolding rules
@@ -745,7 +756,7 @@ abbrev creates : (State → ℕ) → (Control → Control) → List ℕ → List
 creates which f l r g st =
     let i = which st in
     elim (judged st l r g)
-    [ Admitted ↦ reply_of i (create_on (with_free i (f st.control)) (slot_at st i)) st | Refused a ↦ refusal a st ]
+    [ Ok _ ↦ reply_of i (create_on (with_free i (f st.control)) (slot_at st i)) st | Err a ↦ refusal a st ]
 
 -- the lock does not matter
 creates_locked_wrong : CreatePromise (creates (λ st. st.control.free) (standing Idle Publish)) → ⊥

@@ -21,8 +21,7 @@ use Rattle.table.proofs.CopyFind.{added_cases}
 use Rattle.read.specs.Handles.{bit}
 use Rattle.promises.proofs.Witnesses.{copy_with, copy, none, seven, falls, word_at, itself}
 use Rattle.promises.proofs.Contracts.{below, Words, slice}
-use Rattle.promises.proofs.Table.Promises.{NumberPromise, LawfulPromise, FitPromise, LookPromise, UsedPromise, ZeroPromise}
-use Rattle.promises.proofs.Table.Promises.{ClosePromise, ApplyPromise, ApplyByPromise, LookByPromise, LookAllPromise, AddPromise, DropPromise, ClearPromise}
+use Rattle.promises.proofs.Table.Promises.{NumberPromise, LawfulPromise, FitPromise, LookPromise, UsedPromise, ZeroPromise, ClosePromise, ApplyPromise, ApplyByPromise, LookByPromise, LookAllPromise, AddPromise, DropPromise, ClearPromise}
 
 -- ---- what the witnesses are made of
 

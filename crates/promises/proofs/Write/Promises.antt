@@ -9,11 +9,10 @@ use Rattle.table.specs.Order.{op}
 use Rattle.read.specs.declared.Slot.{Slot}
 use Rattle.read.specs.declared.Phase.{Phase}
 use Rattle.read.specs.declared.Control.{Control}
-use Rattle.read.specs.declared.Verdict.{Verdict}
-use Rattle.read.specs.declared.Verdict.TheVariants.{Admitted, Refused}
+use Rattle.read.specs.Machine.{Verdict, judged, place, underway}
+use Rattle.std.specs.Prelude.{Ok, Err}
 use Rattle.read.specs.declared.State.{State}
 use Rattle.read.specs.declared.Reply.{Reply}
-use Rattle.read.specs.Machine.{judged, place, underway}
 use Rattle.read.specs.Handles.{smallest}
 use Rattle.read.specs.Calls.{Lent, lent, refusal}
 use Rattle.write.specs.declared.Moved.{Moved}
@@ -166,8 +165,8 @@ begin o st l r g = (call_rule (Open o) st l r g).made
 begin_leaves : (o : Opening) (st : State) (l r g : List ℕ) → lent (begin o st l r g) l r g ≡ call_rule (Open o) st l r g
 unfolding call_on call_rule
 begin_leaves o st l r g =
-    let at : Verdict → Lent Reply = λ v. elim v [ Admitted ↦ call_on (Open o) st l r g | Refused a ↦ lent (refusal a st) l r g ] in
-    let by : (v : Verdict) → lent (at v).made l r g ≡ at v = λ v. elim v as (λ w. lent (at w).made l r g ≡ at w) [ Admitted ↦ refl | Refused a ↦ refl ] in
+    let at : Verdict → Lent Reply = λ v. elim v [ Ok _ ↦ call_on (Open o) st l r g | Err a ↦ lent (refusal a st) l r g ] in
+    let by : (v : Verdict) → lent (at v).made l r g ≡ at v = λ v. elim v as (λ w. lent (at w).made l r g ≡ at w) [ Ok _ ↦ refl | Err a ↦ refl ] in
     by (judged st l r g)
 
 pub kept :

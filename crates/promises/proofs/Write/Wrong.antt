@@ -17,11 +17,10 @@ use Rattle.read.specs.declared.Phase.TheVariants.{Idle, Begin, Poll, Copy, Drain
 use Rattle.read.specs.declared.Job.{Job}
 use Rattle.read.specs.declared.Job.TheVariants.{Publish, Try, TakeFirst}
 use Rattle.read.specs.declared.Control.{Control}
-use Rattle.read.specs.declared.Verdict.{Verdict}
-use Rattle.read.specs.declared.Verdict.TheVariants.{Admitted, Refused}
+use Rattle.read.specs.Machine.{Verdict, standing, holding, with_free, fresh_control, with_reading, slot_count, log_room, log_words, no_guards, no_slot, new_slot, underway, locks, nulls, judged, fresh, row, place}
+use Rattle.std.specs.Prelude.{Ok, Err}
 use Rattle.read.specs.declared.State.{State}
 use Rattle.read.specs.declared.Reply.{Reply}
-use Rattle.read.specs.Machine.{standing, holding, with_free, fresh_control, with_reading, slot_count, log_room, log_words, no_guards, no_slot, new_slot, underway, locks, nulls, judged, fresh, row, place}
 use Rattle.read.specs.Handles.{smallest, freed, with_due, copy_of, bit}
 use Rattle.read.specs.Calls.{Lent, lent, slot_at, refusal}
 use Rattle.write.specs.declared.Moved.{Moved}
@@ -37,9 +36,7 @@ use Rattle.table.proofs.Computes.{apart}
 use Rattle.promises.proofs.Witnesses.{none, seven, falls, no_log, inside, word_at}
 use Rattle.promises.proofs.Contracts.{Words, slice}
 use Rattle.write.proofs.Computes.{rules}
-use Rattle.promises.proofs.Write.Promises.{Part, Whole, Beginning, HoldsPromise, PlacePromise, OpenOnPromise, AdvancePromise, AdvanceByPromise, ExtendOnPromise, ExtendByPromise, AppendOnPromise, AppendByPromise}
-use Rattle.promises.proofs.Write.Promises.{UnderwayPromise, AtPromise, PollingPromise, LastPollingPromise, StepVerdictPromise}
-use Rattle.promises.proofs.Write.Promises.{ExtendPromise, AppendPromise, StepPromise, RunPromise, PublishPromise, TryPromise, FlushPromise, TakePromise}
+use Rattle.promises.proofs.Write.Promises.{Part, Whole, Beginning, HoldsPromise, PlacePromise, OpenOnPromise, AdvancePromise, AdvanceByPromise, ExtendOnPromise, ExtendByPromise, AppendOnPromise, AppendByPromise, UnderwayPromise, AtPromise, PollingPromise, LastPollingPromise, StepVerdictPromise, ExtendPromise, AppendPromise, StepPromise, RunPromise, PublishPromise, TryPromise, FlushPromise, TakePromise}
 use Rattle.read.proofs.Cases.{state_of, with_lock}
 
 -- ---- what the witnesses are made of
@@ -89,7 +86,7 @@ snapped1 o = snap_at o.made.state 1
 
 -- judged as the rules have it, with another effect
 abbrev judging : Whole → Whole
-judging rule st l r g = elim (judged st l r g) [ Admitted ↦ rule st l r g | Refused a ↦ lent (refusal a st) l r g ]
+judging rule st l r g = elim (judged st l r g) [ Ok _ ↦ rule st l r g | Err a ↦ lent (refusal a st) l r g ]
 
 -- ---- holds
 
@@ -181,15 +178,15 @@ last_polling_skips_wrong h = apart place refl (h 0 refl)
 
 -- a step is always admitted; after take's finish it is refused as where nothing is under way
 abbrev verdict : Verdict → ℕ
-verdict Admitted = 0
-verdict (Refused a) = number a
+verdict (Ok _) = 0
+verdict (Err a) = number a
 
-step_verdict_admits_wrong : StepVerdictPromise (λ k c. Admitted) → ⊥
+step_verdict_admits_wrong : StepVerdictPromise (λ k c. Ok tt) → ⊥
 unfolding rules
 step_verdict_admits_wrong h = apart verdict refl (h 12 idle refl)
 
 step_verdict_not_now_wrong :
-    StepVerdictPromise (λ k c. elim (smallest (step_signs k c)) [ Admitted ↦ Admitted | Refused a ↦ Refused answer.NotNow ]) → ⊥
+    StepVerdictPromise (λ k c. elim (smallest (step_signs k c)) [ Ok _ ↦ Ok tt | Err a ↦ Err answer.NotNow ]) → ⊥
 unfolding rules
 step_verdict_not_now_wrong h = apart verdict refl (h 12 (fitting Gone TakeFirst false false 0 0) refl)
 
@@ -357,7 +354,7 @@ effect os c = appended Walk c.first os c
 abbrev append_if : (List Op → Bool) → (List Op → ℕ) → (List Op → Part) → List Op → Part
 append_if good n f os c s e l r g =
     elim (smallest (writer_signs 7 (not (good os)) (crowds (n os) c) c s))
-    [ Admitted ↦ f os c s e l r g | Refused a ↦ lent (refused a c s e) l r g ]
+    [ Ok _ ↦ f os c s e l r g | Err a ↦ lent (refused a c s e) l r g ]
 
 -- while `first` slot 0's epoch grows by this
 abbrev epoch_by : (List Op → ℕ) → List Op → Part
@@ -528,7 +525,7 @@ extends_backwards_wrong h = apart (λ o. word_at 0 o.right) refl (h Halve add_dr
 -- another effect, or judged by another control part and slot
 abbrev open_by : (Control → Slot → ℕ → Moved) → Control → Slot → Opening → Control → Slot → ℕ → Moved
 open_by f d t o c s e =
-    elim (smallest (writer_signs (column_of o) false false d t)) [ Admitted ↦ f c s e | Refused a ↦ refused a c s e ]
+    elim (smallest (writer_signs (column_of o) false false d t)) [ Ok _ ↦ f c s e | Err a ↦ refused a c s e ]
 
 -- a guard of slot 0 does not refuse
 abbrev under_guards : Opening → Control → Slot → ℕ → Moved
@@ -562,7 +559,7 @@ abbrev opens : Opening → (Control → Slot → ℕ → Moved) → Beginning
 opens o f st l r g =
     let c = st.control in
     let s = slot_at st 0 in
-    elim (judged st l r g) [ Admitted ↦ put_back 0 st (open_by f c s o c s (snap_at st 0)) | Refused a ↦ refusal a st ]
+    elim (judged st l r g) [ Ok _ ↦ put_back 0 st (open_by f c s o c s (snap_at st 0)) | Err a ↦ refusal a st ]
 
 -- after the first publish
 abbrev later : State

@@ -17,21 +17,21 @@ enum_told-1 c = search rules
 pub first_unlawful-requires : goal.first_unlawful-requires
 first_unlawful-requires c =
     let a = c.args in
-    glanced_room a.st.control a.left.now a.right.now a.log.now (sym c.glance-v.ensures ∙ c.in-Admitted.is)
+    glanced_room a.st.control a.left.now a.right.now a.log.now (sym c.glance-v.ensures ∙ c.in-Ok.is)
 
-pub returns-in-Refused : goal.returns-in-Refused
-returns-in-Refused c =
+pub returns-in-Err : goal.returns-in-Err
+returns-in-Err c =
     let a = c.args in
-    sym (judged_refused a.st a.left.now a.right.now a.log.now _ (sym c.glance-v.ensures ∙ c.in-Refused.is))
+    sym (judged_refused a.st a.left.now a.right.now a.log.now _ (sym c.glance-v.ensures ∙ c.in-Err.is))
 
 pub returns-then-both : goal.returns-then-both
 returns-then-both c =
     let a = c.args in
-    sym (judged_whole a.st a.left.now a.right.now a.log.now (sym c.glance-v.ensures ∙ c.in-Admitted.is)
+    sym (judged_whole a.st a.left.now a.right.now a.log.now (sym c.glance-v.ensures ∙ c.in-Ok.is)
     (tested a.st.control.length c.both.ensures c.first_unlawful.ensures c.orderly.ensures ∙ c.if-both.true))
 
 pub returns-else-both : goal.returns-else-both
 returns-else-both c =
     let a = c.args in
-    sym (judged_broken a.st a.left.now a.right.now a.log.now (sym c.glance-v.ensures ∙ c.in-Admitted.is)
+    sym (judged_broken a.st a.left.now a.right.now a.log.now (sym c.glance-v.ensures ∙ c.in-Ok.is)
     (tested a.st.control.length c.both.ensures c.first_unlawful.ensures c.orderly.ensures ∙ c.if-both.false))

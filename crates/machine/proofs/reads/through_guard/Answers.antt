@@ -13,14 +13,14 @@ returns-then-slot-ge-SLOTS c =
     let a = c.args in
     sym (guard_past a.slot a.guard a.left.now a.right.now a.st c.if-slot-ge-SLOTS.true)
 
-pub returns-in-Refused : goal.returns-in-Refused
+pub returns-in-Err : goal.returns-in-Err
 unfolding slot_count
-returns-in-Refused c =
+returns-in-Err c =
     let a = c.args in
-    sym (guard_refused a.slot a.guard a.left.now a.right.now a.st c.if-slot-ge-SLOTS.false _ (sym (c.verdict-v.ensures ∙ ap (λ s. smallest (handle_signs a.st.control (eqb a.slot 0) s (LookUp a.guard 0))) c.slot_at-s.ensures) ∙ c.in-Refused.is))
+    sym (guard_refused a.slot a.guard a.left.now a.right.now a.st c.if-slot-ge-SLOTS.false _ (sym (c.verdict-v.ensures ∙ ap (λ s. smallest (handle_signs a.st.control (eqb a.slot 0) s (LookUp a.guard 0))) c.slot_at-s.ensures) ∙ c.in-Err.is))
 
-pub returns-in-Admitted : goal.returns-in-Admitted
+pub returns-in-Ok : goal.returns-in-Ok
 unfolding slot_count
-returns-in-Admitted c =
+returns-in-Ok c =
     let a = c.args in
-    c.guarded_copy.ensures ∙ ap (λ s. guarded_copy s.guards a.guard a.left.now a.right.now) c.slot_at-s.ensures ∙ sym (guard_shown a.slot a.guard a.left.now a.right.now a.st c.if-slot-ge-SLOTS.false (sym (c.verdict-v.ensures ∙ ap (λ s. smallest (handle_signs a.st.control (eqb a.slot 0) s (LookUp a.guard 0))) c.slot_at-s.ensures) ∙ c.in-Admitted.is))
+    c.guarded_copy.ensures ∙ ap (λ s. guarded_copy s.guards a.guard a.left.now a.right.now) c.slot_at-s.ensures ∙ sym (guard_shown a.slot a.guard a.left.now a.right.now a.st c.if-slot-ge-SLOTS.false (sym (c.verdict-v.ensures ∙ ap (λ s. smallest (handle_signs a.st.control (eqb a.slot 0) s (LookUp a.guard 0))) c.slot_at-s.ensures) ∙ c.in-Ok.is))

@@ -2,8 +2,8 @@
 use Rattle.machine.proofs.Callings.{call_refused, open_made}
 use Rattle.machine.proofs.writes.begin.Goals as goal
 
-pub returns-in-Admitted : goal.returns-in-Admitted
-returns-in-Admitted c = search open_made
+pub returns-in-Ok : goal.returns-in-Ok
+returns-in-Ok c = search open_made
 
-pub returns-in-Refused : goal.returns-in-Refused
-returns-in-Refused c = search call_refused
+pub returns-in-Err : goal.returns-in-Err
+returns-in-Err c = search call_refused

@@ -5,8 +5,8 @@ use Rattle.machine.proofs.writes.go.Goals as goal
 pub admitted-requires : goal.admitted-requires
 admitted-requires c = search judged_whole_control
 
-pub returns-in-Admitted : goal.returns-in-Admitted
-returns-in-Admitted c = search goes_made
+pub returns-in-Ok : goal.returns-in-Ok
+returns-in-Ok c = search goes_made
 
-pub returns-in-Refused : goal.returns-in-Refused
-returns-in-Refused c = search call_refused
+pub returns-in-Err : goal.returns-in-Err
+returns-in-Err c = search call_refused

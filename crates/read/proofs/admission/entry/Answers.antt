@@ -91,20 +91,20 @@ entry_past : (p : Phase) (j : ℕ) → 20 ≤ j → entry p 19 ≡ entry p j
 unfolding entry
 entry_past p j h = sym (get_or-eq_default (admissions p) (not_now (underway p)) h)
 
-pub offset_bounds-i : goal.offset_bounds-i
-offset_bounds-i c = omega (arith, in_table c.args.p)
+pub offset_bounds-row : goal.offset_bounds-row
+offset_bounds-row c = omega (arith, in_table c.args.p)
 
-pub bounds-i : goal.bounds-i
-bounds-i c = omega (arith, c.row-i.ensures, in_table c.args.p)
+pub bounds-row : goal.bounds-row
+bounds-row c = omega (arith, c.row.ensures, in_table c.args.p)
 
 pub returns-then-column-lt20 : goal.returns-then-column-lt20
 unfolding admits
 returns-then-column-lt20 c =
     let a = c.args in
-    ap (λ (i : ℕ). digit (get_or admits i 0) a.column) c.row-i.ensures ∙ entry_at a.p a.column c.if-column-lt20.true
+    ap (λ (i : ℕ). digit (get_or admits i 0) a.column) c.row.ensures ∙ entry_at a.p a.column c.if-column-lt20.true
 
 pub returns : goal.returns
 unfolding admits
 returns c =
     let a = c.args in
-    ap (λ (i : ℕ). get_or admits i 0 % 8) c.row-i.ensures ∙ last a.p ∙ entry_past a.p a.column c.if-column-lt20.false
+    ap (λ (i : ℕ). get_or admits i 0 % 8) c.row.ensures ∙ last a.p ∙ entry_past a.p a.column c.if-column-lt20.false

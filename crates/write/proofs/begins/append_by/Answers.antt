@@ -5,8 +5,8 @@ use Rattle.write.proofs.begins.append_by.Goals as goal
 pub appended-requires : goal.appended-requires
 appended-requires c = search one_fits
 
-pub returns-in-Admitted : goal.returns-in-Admitted
-returns-in-Admitted c = search one_admitted
+pub returns-in-Ok : goal.returns-in-Ok
+returns-in-Ok c = search one_admitted
 
-pub returns-in-Refused : goal.returns-in-Refused
-returns-in-Refused c = search one_refused
+pub returns-in-Err : goal.returns-in-Err
+returns-in-Err c = search one_refused
