@@ -4,264 +4,233 @@ use crate::{records, slices};
 use read::{Reply, State};
 use std::io::Stdout;
 use table::Answer;
-use tell::{put, say, value, word};
+use tell::{apart, put, say, say_words, value, word};
 
-// The machine, and how many words of each slice are lent.
+// How many words of each slice are lent.
 #[derive(Debug, Clone, Copy, PartialEq, Eq)]
-pub struct World {
-    state: State,
+struct Lengths {
     left: usize,
     right: usize,
     log: usize,
 }
 
-// A line's first word has its number in the list of `kind`: 0 start, 1 to 15 the calls of a schedule, 16 to 21 calls on the left slice,
-// 22 the release in place, 23 and 24 many look ups, 25 to 29 parts that are shown, 30 to 32 a slice, 33 lengths and 34 a fresh machine that
-// are set up, 35 to 38 parts of the state.
-const CALLS: usize = 25;
+// Those of a machine's slices.
+const WHOLE: Lengths = Lengths {
+    left: table::WORDS,
+    right: table::WORDS,
+    log: read::LOG_WORDS,
+};
 
-const SLICES: usize = 30;
-
-const LENGTHS: usize = 33;
-
-const FRESH: usize = 34;
-
-fn kind(line: &[u8]) -> usize {
-    tell::which(
-        b"start create drop enter go-on release look-up was-dropped append publish try flush take step run extend apply add remove clear close-gap fill leave find-all find-each view pair find used apart left right log lengths fresh set phase slot snapshot",
-        word(line, 0),
-    )
+// The machine, its slices, and what is lent of them.
+#[derive(Clone, Copy)]
+pub(crate) struct World {
+    state: State,
+    lengths: Lengths,
+    left: [u64; SPACE],
+    right: [u64; SPACE],
+    log: [u64; SPACE],
 }
 
-fn answered(a: Answer, st: State) -> Reply {
+// What is lent to a call.
+#[derive(Drop)]
+struct Lent<'a> {
+    left: &'a mut [u64],
+    right: &'a mut [u64],
+    log: &'a mut [u64],
+}
+
+fn answered(answer: Answer, state: State) -> Reply {
     Reply {
-        answer: a,
+        answer,
         value: 0,
-        state: st,
+        state,
     }
 }
 
-// ---- what changes no word
+// ---- calls
 
-fn part<'a>(
-    k: usize,
-    x: u64,
-    j: usize,
-    key: u64,
-    st: State,
-    left: &'a [u64],
-    right: &'a [u64],
-    log: &[u64],
-) -> &'a [u64] {
-    match k {
-        25 => machine::view(st, x as usize, j, left, right, log),
-        26 => machine::pair(st, x as usize, j, key, left, right, log),
-        27 => table::look_up(left, x),
-        _ => table::used(left),
-    }
-}
-
-fn say_part(to: Stdout, p: &[u64]) {
-    say(to, b" -> ", p.len() as u64);
-    tell::say_words(to, b" words", &[], p);
-}
-
-fn say_apart(to: Stdout, a: &[u64], b: &[u64]) {
-    let d = tell::apart(a, b);
-    say(to, b" -> ", d.words);
+// A batch. Behind the words that its line gives stand those of a log.
+fn extended(line: &[u8], state: State, lent: Lent<'_>) -> Reply {
+    let ops = slices::ops(line);
+    let n = OPS.min(value(line, 1) as usize);
+    let Lent { left, right, log } = lent;
+    machine::extend(state, &ops[..n], left, right, log)
 }
 
 // The release in place, on the record of a slot.
-fn left_by(st: State, i: usize, guard: usize) -> Reply {
-    if read::SLOTS <= i {
-        return answered(Answer::NoSlot, st);
+fn left_by(mut state: State, i: usize, guard: usize) -> Reply {
+    match state.slots.get_mut(i) {
+        Some(slot) => {
+            let released = place::leave(*slot, guard);
+            *slot = released.slot;
+            answered(released.answer, state)
+        }
+        None => answered(Answer::NoSlot, state),
     }
-    let slots = st.slots;
-    let r = place::leave(slots[i], guard);
-    let a = r.answer;
-    let s = r.slot;
-    answered(a, records::with_slot(st, i, s))
 }
 
-fn on_state<'a>(
-    to: Stdout,
-    k: usize,
-    line: &[u8],
-    st: State,
-    left: &'a [u64],
-    right: &'a [u64],
-    log: &[u64],
-) -> Reply {
+// A call on the machine.
+fn on_machine(line: &[u8], state: State, lent: Lent<'_>) -> Option<Reply> {
+    let Lent { left, right, log } = lent;
     let x = value(line, 1);
-    let i = x as usize;
-    let j = value(line, 2) as usize;
+    let y = value(line, 2);
+    let z = value(line, 3);
+    let slot = x as usize;
+    let guard = y as usize;
+    let reply = match word(line, 0) {
+        b"start" => machine::start(left, right, log),
+        b"create" => machine::create(state, left, right, log),
+        b"drop" => machine::drop(state, slot, left, right, log),
+        b"enter" => machine::enter(state, slot, left, right, log),
+        b"go-on" => machine::go_on(state, slot, left, right, log),
+        b"release" => machine::release(state, slot, guard, left, right, log),
+        b"look-up" => machine::look_up(state, slot, guard, z, left, right, log),
+        b"was-dropped" => machine::was_dropped(state, slot, left, right, log),
+        b"append" => machine::append(state, x, y, z, left, right, log),
+        b"extend" => extended(line, state, Lent { left, right, log }),
+        b"publish" => machine::publish(state, left, right, log),
+        b"try" => machine::try_publish(state, left, right, log),
+        b"flush" => machine::flush(state, left, right, log),
+        b"take" => machine::take(state, left, right, log),
+        b"step" => machine::step(state, left, right, log),
+        b"run" => machine::run(state, left, right, log),
+        b"leave" => left_by(state, slot, guard),
+        _ => return None,
+    };
+    Some(reply)
+}
+
+// A call on words alone.
+fn on_words(line: &[u8], lent: Lent<'_>) -> Option<Answer> {
+    let Lent { left, right, log } = lent;
+    let x = value(line, 1);
+    let y = value(line, 2);
+    let answer = match word(line, 0) {
+        b"apply" => table::apply(left, x, y, value(line, 3)),
+        b"add" => table::add(left, x, y),
+        b"remove" => table::drop(left, x),
+        b"clear" => table::clear(left),
+        b"close-gap" => slices::closed(left, x as usize, y as usize),
+        b"fill" => slices::filled(left),
+        b"find-all" => table::look_up_all(left, right, log),
+        b"find-each" => slices::find_each(left, right, log),
+        _ => return None,
+    };
+    Some(answer)
+}
+
+// ---- parts
+
+fn part<'a>(line: &[u8], state: State, lent: &'a Lent<'_>) -> Option<&'a [u64]> {
+    let x = value(line, 1);
+    let slot = x as usize;
+    let guard = value(line, 2) as usize;
     let key = value(line, 3);
-    match k {
-        1 => machine::create(st, left, right, log),
-        2 => machine::drop(st, i, left, right, log),
-        3 => machine::enter(st, i, left, right, log),
-        4 => machine::go_on(st, i, left, right, log),
-        5 => machine::release(st, i, j, left, right, log),
-        6 => machine::look_up(st, i, j, key, left, right, log),
-        7 => machine::was_dropped(st, i, left, right, log),
-        9 => machine::publish(st, left, right, log),
-        10 => machine::try_publish(st, left, right, log),
-        11 => machine::flush(st, left, right, log),
-        12 => machine::take(st, left, right, log),
-        22 => left_by(st, i, j),
-        25..=28 => {
-            say_part(to, part(k, x, j, key, st, left, right, log));
-            answered(Answer::Done, st)
-        }
-        29 => {
-            say_apart(to, left, right);
-            answered(Answer::Done, st)
-        }
-        _ => answered(Answer::Done, records::set_up(k, line, st)),
+    let part = match word(line, 0) {
+        b"view" => machine::view(state, slot, guard, lent.left, lent.right, lent.log),
+        b"pair" => machine::pair(state, slot, guard, key, lent.left, lent.right, lent.log),
+        b"find" => table::look_up(lent.left, x),
+        b"used" => table::used(lent.left),
+        _ => return None,
+    };
+    Some(part)
+}
+
+fn show(to: Stdout, line: &[u8], state: State, lent: Lent<'_>) {
+    if let Some(words) = part(line, state, &lent) {
+        say(to, format_args!(" -> {}", words.len()));
+        say_words(to, " words", &[], words);
+    }
+    let Lent { left, right, .. } = lent;
+    if let b"apart" = word(line, 0) {
+        say(to, format_args!(" -> {}", apart(left, right).words));
     }
 }
 
 // ---- all lines
 
-// A batch. Its line names no pattern, so that behind the words that it gives those of a log stay.
-fn extended(line: &[u8], st: State, left: &mut [u64], right: &mut [u64], log: &mut [u64]) -> Reply {
-    let mut ops = [0u64; OPS];
-    slices::set_up(b"ops logged", &mut ops);
-    slices::set_up(line, &mut ops);
-    let n = value(line, 1) as usize;
-    machine::extend(st, slices::first(&ops, n), left, right, log)
-}
+impl World {
+    // A fresh machine. No word of its slices is set up.
+    pub(crate) fn new() -> World {
+        World {
+            state: read::fresh_state(),
+            lengths: WHOLE,
+            left: [0; SPACE],
+            right: [0; SPACE],
+            log: [0; SPACE],
+        }
+    }
 
-fn acted(
-    to: Stdout,
-    k: usize,
-    line: &[u8],
-    st: State,
-    left: &mut [u64],
-    right: &mut [u64],
-    log: &mut [u64],
-) -> Reply {
-    match k {
-        0 | 34 => machine::start(left, right, log),
-        8 => machine::append(
-            st,
-            value(line, 1),
-            value(line, 2),
-            value(line, 3),
+    fn lent(&mut self) -> Lent<'_> {
+        let lengths = self.lengths;
+        let World {
             left,
             right,
             log,
-        ),
-        13 => machine::step(st, left, right, log),
-        14 => machine::run(st, left, right, log),
-        15 => extended(line, st, left, right, log),
-        16..=21 => answered(slices::call(k, line, left), st),
-        23 | 24 => answered(slices::find_many(k, &left[..], &right[..], log), st),
-        30 => answered(slices::set_up(line, left), st),
-        31 => answered(slices::set_up(line, right), st),
-        32 => answered(slices::set_up(line, log), st),
-        _ => on_state(to, k, line, st, &left[..], &right[..], &log[..]),
+            ..
+        } = self;
+        Lent {
+            left: &mut left[..SPACE.min(lengths.left)],
+            right: &mut right[..SPACE.min(lengths.right)],
+            log: &mut log[..SPACE.min(lengths.log)],
+        }
     }
-}
 
-// How many words a line is on: of a slice that is set up, all that there are.
-fn asked(k: usize, n: usize) -> usize {
-    if SLICES <= k && k < LENGTHS {
-        return SPACE;
+    fn called(&mut self, line: &[u8]) -> Option<Reply> {
+        let state = self.state;
+        match on_machine(line, state, self.lent()) {
+            Some(reply) => Some(reply),
+            None => on_words(line, self.lent()).map(|answer| answered(answer, state)),
+        }
     }
-    n
-}
 
-// A line on as many words of each slice as are lent.
-fn lent(
-    to: Stdout,
-    k: usize,
-    line: &[u8],
-    w: World,
-    left: &mut [u64],
-    right: &mut [u64],
-    log: &mut [u64],
-) -> Reply {
-    let st = w.state;
-    let a = tell::least(asked(k, w.left), left.len());
-    let b = tell::least(asked(k, w.right), right.len());
-    let c = tell::least(asked(k, w.log), log.len());
-    acted(
-        to,
-        k,
-        line,
-        st,
-        &mut left[..a],
-        &mut right[..b],
-        &mut log[..c],
-    )
-}
-
-// A machine over slices of the right lengths.
-pub(crate) fn whole(st: State) -> World {
-    World {
-        state: st,
-        left: table::WORDS,
-        right: table::WORDS,
-        log: read::LOG_WORDS,
+    fn start_anew(&mut self) {
+        self.lengths = WHOLE;
+        let Lent { left, right, log } = self.lent();
+        self.state = machine::start(left, right, log).state;
     }
-}
 
-// What is lent to a line.
-fn lengths(k: usize, line: &[u8], w: World) -> World {
-    let st = w.state;
-    if k == FRESH {
-        return whole(st);
+    fn set_up(&mut self, line: &[u8]) {
+        match word(line, 0) {
+            b"left" => slices::set_up(line, &mut self.left),
+            b"right" => slices::set_up(line, &mut self.right),
+            b"log" => slices::set_up(line, &mut self.log),
+            b"lengths" => {
+                self.lengths = Lengths {
+                    left: value(line, 1) as usize,
+                    right: value(line, 2) as usize,
+                    log: value(line, 3) as usize,
+                }
+            }
+            b"fresh" => self.start_anew(),
+            _ => records::set_up(line, &mut self.state),
+        }
     }
-    if k != LENGTHS {
-        return w;
-    }
-    World {
-        state: st,
-        left: value(line, 1) as usize,
-        right: value(line, 2) as usize,
-        log: value(line, 3) as usize,
-    }
-}
 
-fn say_reply(to: Stdout, st: State, r: Reply) {
-    let a = r.answer;
-    let after = r.state;
-    say(to, b" -> ", u8::from(a) as u64);
-    say(to, b" ", r.value);
-    records::say_state(to, st, after);
-}
-
-fn say_slice(to: Stdout, name: &[u8], a: &[u64; SPACE], b: &[u64; SPACE]) {
-    tell::say_words(to, name, a, b);
-}
-
-// A line, and what it led to.
-pub(crate) fn told(
-    to: Stdout,
-    line: &[u8],
-    w: World,
-    left: &mut [u64; SPACE],
-    right: &mut [u64; SPACE],
-    log: &mut [u64; SPACE],
-) -> World {
-    let x = *left;
-    let y = *right;
-    let z = *log;
-    let k = kind(line);
-    let v = lengths(k, line, w);
-    put(to, line);
-    let r = lent(to, k, line, v, left, right, log);
-    if k < CALLS {
-        let st = w.state;
-        say_reply(to, st, r);
-        say_slice(to, b", left", &x, left);
-        say_slice(to, b", right", &y, right);
-        say_slice(to, b", log", &z, log);
+    // What a call answered, and what it changed.
+    fn say_reply(&self, to: Stdout, before: &World, reply: Reply) {
+        let answer = u8::from(reply.answer);
+        say(to, format_args!(" -> {answer} {}", reply.value));
+        records::say_state(to, &before.state, &self.state);
+        say_words(to, ", left", &before.left, &self.left);
+        say_words(to, ", right", &before.right, &self.right);
+        say_words(to, ", log", &before.log, &self.log);
     }
-    put(to, b"\n");
-    let after = r.state;
-    let mut next = v;
-    next.state = after;
-    next
+
+    // A line, and what it led to.
+    pub(crate) fn tell(&mut self, to: Stdout, line: &[u8]) {
+        let before = *self;
+        put(to, line);
+        match self.called(line) {
+            Some(reply) => {
+                self.state = reply.state;
+                self.say_reply(to, &before, reply);
+            }
+            None => {
+                show(to, line, before.state, self.lent());
+                self.set_up(line);
+            }
+        }
+        say(to, "\n");
+    }
 }

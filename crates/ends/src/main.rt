@@ -19,32 +19,15 @@ mod calls;
 mod records;
 mod slices;
 
-use slices::SPACE;
-use std::io::Stdout;
+use calls::World;
 use tell::ROOM;
 
-// All lines. Whatever the lengths, a start hands out a fresh state.
-fn each_line(to: Stdout, s: &[u8]) {
-    let mut left = [0u64; SPACE];
-    let mut right = [0u64; SPACE];
-    let mut log = [0u64; SPACE];
-    let r = machine::start(&mut left, &mut right, &mut log);
-    let st = r.state;
-    let mut w = calls::whole(st);
-    let mut at = 0;
-    while at < s.len() {
-        let end = tell::until(s, at, b'\n');
-        w = calls::told(to, &s[at..end], w, &mut left, &mut right, &mut log);
-        at = tell::behind(s, end);
-    }
-}
-
-fn cases(to: Stdout, space: &[u8; ROOM], n: usize) {
-    each_line(to, tell::text(to, space, n));
-}
-
 fn main(rt: HostRuntime) {
+    let to = rt.stdout();
     let mut space = [0u8; ROOM];
-    let n = tell::read_all(rt.stdin(), &mut space);
-    cases(rt.stdout(), &space, n);
+    let text = tell::read_text(to, rt.stdin(), &mut space);
+    let mut world = World::new();
+    for line in text.split_inclusive(|b| *b == b'\n') {
+        world.tell(to, line.strip_suffix(b"\n").unwrap_or(line));
+    }
 }

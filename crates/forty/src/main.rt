@@ -13,9 +13,9 @@
 
 use read::{LOG_WORDS, State};
 use std::env::{Env, FillError};
-use std::io::{Stderr, Stdout};
+use std::io::Stdout;
 use table::{PAIRS, WORDS};
-use tell::{put, say};
+use tell::say;
 
 const KEYS: usize = 40;
 
@@ -32,39 +32,28 @@ const ADD: u64 = 1;
 // ---- the machine
 
 // An ADD for each pair, in a mixed order.
-fn filled(st: State, left: &mut [u64], right: &mut [u64], log: &mut [u64]) -> State {
-    let mut s = st;
-    let mut i: usize = 0;
-    while i < PAIRS {
+fn filled(mut state: State, left: &mut [u64], right: &mut [u64], log: &mut [u64]) -> State {
+    for i in 0..PAIRS {
         let p = (i * 5 % PAIRS) as u64 + 1;
-        let r = machine::append(s, ADD, 2 * p, p, left, right, log);
-        let next = r.state;
-        s = next;
-        i += 1;
+        state = machine::append(state, ADD, 2 * p, p, left, right, log).state;
     }
-    s
+    state
 }
 
-fn published(st: State, left: &mut [u64], right: &mut [u64], log: &mut [u64]) -> State {
-    let r = machine::publish(st, &left[..], &right[..], &log[..]);
-    let begun = r.state;
-    let r = machine::run(begun, left, right, log);
-    r.state
+fn published(state: State, left: &mut [u64], right: &mut [u64], log: &mut [u64]) -> State {
+    let begun = machine::publish(state, left, right, log).state;
+    machine::run(begun, left, right, log).state
 }
 
 // A handle, with a guard.
-fn entered<'a>(st: State, left: &'a [u64], right: &'a [u64], log: &[u64]) -> State {
-    let r = machine::create(st, left, right, log);
-    let made = r.state;
-    let r = machine::enter(made, SLOT, left, right, log);
-    let announced = r.state;
-    let r = machine::go_on(announced, SLOT, left, right, log);
-    r.state
+fn entered(state: State, left: &[u64], right: &[u64], log: &[u64]) -> State {
+    let made = machine::create(state, left, right, log).state;
+    let announced = machine::enter(made, SLOT, left, right, log).state;
+    machine::go_on(announced, SLOT, left, right, log).state
 }
 
 fn ready(left: &mut [u64; WORDS], right: &mut [u64; WORDS], log: &mut [u64; LOG_WORDS]) -> State {
-    let r = machine::start(left, right, log);
-    let fresh = r.state;
+    let fresh = machine::start(left, right, log).state;
     let full = filled(fresh, left, right, log);
     let seen = published(full, left, right, log);
     entered(seen, left, right, log)
@@ -73,217 +62,181 @@ fn ready(left: &mut [u64; WORDS], right: &mut [u64; WORDS], log: &mut [u64; LOG_
 // ---- the look ups
 
 fn keys() -> [u64; KEYS] {
-    let mut k = [0u64; KEYS];
-    let mut i = 0;
-    while i < KEYS {
+    let mut keys = [0; KEYS];
+    for (i, key) in keys.iter_mut().enumerate() {
         let p = (i / 2 * 25 + 19) as u64;
-        k[i] = 2 * p + (i % 2) as u64;
-        i += 1;
+        *key = 2 * p + (i % 2) as u64;
     }
-    k
+    keys
 }
 
-// A count is never 0 where the key is there.
-fn one_by_one<'a>(
-    st: State,
-    keys: &[u64; KEYS],
-    out: &mut [u64; OUT],
+// What is told of the keys.
+type Told = [u64; OUT];
+
+// A machine that is read through its guard.
+#[derive(Clone, Copy)]
+struct Reader<'a> {
+    state: State,
     left: &'a [u64],
     right: &'a [u64],
-    log: &[u64],
-) {
-    let mut i = 0;
-    while i < KEYS {
-        let r = machine::look_up(st, SLOT, GUARD, keys[i], left, right, log);
-        out[2 * i] = tell::one_if(r.value != 0);
-        out[2 * i + 1] = r.value;
-        i += 1;
+    log: &'a [u64],
+}
+
+impl Reader<'_> {
+    // A count is never 0 where the key is there.
+    fn count_of(&self, key: u64) -> u64 {
+        machine::look_up(
+            self.state, SLOT, GUARD, key, self.left, self.right, self.log,
+        )
+        .value
     }
-}
 
-fn at_once<'a>(
-    st: State,
-    keys: &[u64; KEYS],
-    out: &mut [u64; OUT],
-    left: &'a [u64],
-    right: &'a [u64],
-    log: &[u64],
-) {
-    table::look_up_all(machine::view(st, SLOT, GUARD, left, right, log), keys, out);
-}
-
-fn looked_up<'a>(
-    one: bool,
-    st: State,
-    keys: &[u64; KEYS],
-    out: &mut [u64; OUT],
-    left: &'a [u64],
-    right: &'a [u64],
-    log: &[u64],
-) {
-    if one {
-        one_by_one(st, keys, out, left, right, log);
-    } else {
-        at_once(st, keys, out, left, right, log);
+    fn one_by_one(&self, keys: &[u64; KEYS], told: &mut Told) {
+        let (pairs, _) = told.as_chunks_mut::<2>();
+        for (pair, key) in pairs.iter_mut().zip(keys) {
+            let count = self.count_of(*key);
+            *pair = [u64::from(count != 0), count];
+        }
     }
-}
 
-fn rounds<'a>(
-    n: u64,
-    one: bool,
-    st: State,
-    keys: &[u64; KEYS],
-    out: &mut [u64; OUT],
-    left: &'a [u64],
-    right: &'a [u64],
-    log: &[u64],
-) {
-    let mut i = 0;
-    while i < n {
-        looked_up(one, st, keys, out, left, right, log);
-        i += 1;
+    fn at_once(&self, keys: &[u64; KEYS], told: &mut Told) {
+        let view = machine::view(self.state, SLOT, GUARD, self.left, self.right, self.log);
+        table::look_up_all(view, keys, told);
     }
 }
 
 // ---- what is written
 
-// What every second word makes, from one on.
-fn sum(out: &[u64; OUT], from: usize) -> u64 {
-    let mut n: u64 = 0;
-    let mut i = from;
-    while i < OUT {
-        n = n.wrapping_add(out[i]);
-        i += 2;
-    }
-    n
+// What every second word makes.
+fn sum(words: &[u64]) -> u64 {
+    words
+        .iter()
+        .step_by(2)
+        .fold(0, |sum: u64, x| sum.wrapping_add(*x))
 }
 
-fn write(to: Stdout, out: &[u64; OUT]) {
-    say(to, b"", sum(out, 0));
+fn write(to: Stdout, told: &Told) {
+    let there = sum(told);
+    let counts = sum(&told[1..]);
     say(
         to,
-        b" of 40 keys are there, and their counts make ",
-        sum(out, 1),
+        format_args!("{there} of 40 keys are there, and their counts make {counts}\n"),
     );
-    put(to, b"\n");
 }
 
-fn compare(to: Stdout, a: &[u64; OUT], b: &[u64; OUT]) {
-    let d = tell::apart(a, b);
-    if d.words == 0 {
-        put(to, b"one by one and at once: ");
-        write(to, b);
-    } else {
-        say(to, b"one by one and at once differ in words: ", d.words);
-        put(to, b"\n");
+fn compare(to: Stdout, a: &Told, b: &Told) {
+    match tell::apart(a, b).words {
+        0 => {
+            say(to, "one by one and at once: ");
+            write(to, b);
+        }
+        n => say(
+            to,
+            format_args!("one by one and at once differ in words: {n}\n"),
+        ),
     }
 }
 
 // ---- the words
+// They are read into lent bytes: for a `String` there could be no memory.
 
-fn is_decimal(w: &[u8]) -> bool {
-    let mut i = 0;
-    while i < w.len() {
-        if w[i] < b'0' || b'9' < w[i] {
-            return false;
-        }
-        i += 1;
-    }
-    true
+#[derive(Debug, Clone, Copy, PartialEq, Eq)]
+enum Way {
+    OneByOne,
+    AtOnce,
+}
+
+// What is asked for.
+#[derive(Debug, Clone, Copy, PartialEq, Eq)]
+enum Task {
+    Both,
+    Rounds(Way, u64),
 }
 
 // Whether there is a word `k`, the program's name being 0.
 fn has_word(rt: HostRuntime, k: usize) -> bool {
-    match rt.arg(k, &mut [0u8; 9]) {
-        Err(FillError::NotPresent) => false,
-        _ => true,
-    }
+    !matches!(rt.arg(k, &mut [0u8; 9]), Err(FillError::NotPresent))
 }
 
-// How many rounds are asked for, up to 999,999,999; 0 where that is not said.
-fn asked_rounds(rt: HostRuntime) -> u64 {
-    let mut word = [0u8; 9];
-    let n = rt.arg(2, &mut word).unwrap_or(0);
-    if is_decimal(&word[..n]) {
-        return tell::number(&word[..n]);
-    }
-    0
-}
-
-// Which way: 0 one by one, 1 at once, 2 where neither is said.
-fn asked_way(rt: HostRuntime) -> usize {
+fn asked_way(rt: HostRuntime) -> Option<Way> {
     let mut word = [0u8; 3];
-    let n = rt.arg(1, &mut word).unwrap_or(0);
-    tell::which(b"one all", &word[..n])
+    let n = rt.arg(1, &mut word).ok()?;
+    match &word[..n] {
+        b"one" => Some(Way::OneByOne),
+        b"all" => Some(Way::AtOnce),
+        _ => None,
+    }
 }
 
-fn refuse(to: Stderr) {
-    let _ = to.write_all(
-        b"forty: wanted: no words, or one ROUNDS, or all ROUNDS, from 1 to 999999999\n",
-    );
+// How many rounds, from 1 to 999,999,999.
+fn asked_rounds(rt: HostRuntime) -> Option<u64> {
+    let mut word = [0u8; 9];
+    let n = rt.arg(2, &mut word).ok()?;
+    let digits = &word[..n];
+    if !digits.iter().all(|b| b.is_ascii_digit()) {
+        return None;
+    }
+    Some(tell::number(digits)).filter(|n| *n != 0)
+}
+
+// Nothing where the words are others than those that are wanted.
+fn asked(rt: HostRuntime) -> Option<Task> {
+    if !has_word(rt, 1) {
+        return Some(Task::Both);
+    }
+    if has_word(rt, 3) {
+        return None;
+    }
+    Some(Task::Rounds(asked_way(rt)?, asked_rounds(rt)?))
 }
 
 // ---- the program
 
-fn both<'a>(to: Stdout, st: State, left: &'a [u64], right: &'a [u64], log: &[u64]) {
-    let k = keys();
-    let mut a = [0u64; OUT];
-    let mut b = [0u64; OUT];
-    one_by_one(st, &k, &mut a, left, right, log);
-    at_once(st, &k, &mut b, left, right, log);
+fn both(to: Stdout, reader: &Reader<'_>) {
+    let keys = keys();
+    let mut a = [0; OUT];
+    let mut b = [0; OUT];
+    reader.one_by_one(&keys, &mut a);
+    reader.at_once(&keys, &mut b);
     compare(to, &a, &b);
 }
 
-fn counted<'a>(
-    to: Stdout,
-    n: u64,
-    one: bool,
-    st: State,
-    left: &'a [u64],
-    right: &'a [u64],
-    log: &[u64],
-) {
-    let k = keys();
-    let mut out = [0u64; OUT];
-    rounds(n, one, st, &k, &mut out, left, right, log);
-    write(to, &out);
-}
-
-// No rounds stand for both ways.
-fn run(
-    to: Stdout,
-    n: u64,
-    one: bool,
-    left: &mut [u64; WORDS],
-    right: &mut [u64; WORDS],
-    log: &mut [u64; LOG_WORDS],
-) {
-    let st = ready(left, right, log);
-    if n == 0 {
-        both(to, st, left, right, log);
-    } else {
-        counted(to, n, one, st, left, right, log);
+fn counted(to: Stdout, reader: &Reader<'_>, way: Way, rounds: u64) {
+    let keys = keys();
+    let mut told = [0; OUT];
+    for _ in 0..rounds {
+        match way {
+            Way::OneByOne => reader.one_by_one(&keys, &mut told),
+            Way::AtOnce => reader.at_once(&keys, &mut told),
+        }
     }
+    write(to, &told);
 }
 
-fn start(to: Stdout, n: u64, one: bool) {
-    let mut left = [0u64; WORDS];
-    let mut right = [0u64; WORDS];
-    let mut log = [0u64; LOG_WORDS];
-    run(to, n, one, &mut left, &mut right, &mut log);
+fn start(to: Stdout, task: Task) {
+    let mut left = [0; WORDS];
+    let mut right = [0; WORDS];
+    let mut log = [0; LOG_WORDS];
+    let state = ready(&mut left, &mut right, &mut log);
+    let reader = Reader {
+        state,
+        left: &left,
+        right: &right,
+        log: &log,
+    };
+    match task {
+        Task::Both => both(to, &reader),
+        Task::Rounds(way, rounds) => counted(to, &reader, way, rounds),
+    }
 }
 
 fn main(rt: HostRuntime) {
-    let to = rt.stdout();
-    if !has_word(rt, 1) {
-        start(to, 0, true);
-        return;
+    match asked(rt) {
+        Some(task) => start(rt.stdout(), task),
+        None => {
+            let _ = rt.stderr().print(
+                "forty: wanted: no words, or one ROUNDS, or all ROUNDS, from 1 to 999999999\n",
+            );
+        }
     }
-    let n = asked_rounds(rt);
-    let way = asked_way(rt);
-    if !has_word(rt, 2) || has_word(rt, 3) || n == 0 || 1 < way {
-        refuse(rt.stderr());
-        return;
-    }
-    start(to, n, way == 0);
 }

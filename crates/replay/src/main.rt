@@ -3,14 +3,14 @@
 // Then it plays the schedules of standard input, which are refused.
 #![tactic(auto)]
 
-ghost use Rattle.std.specs.Prelude.{◌≤◌, length};
+ghost use Rattle.std.specs.Prelude.{◌+◌, ◌<◌, length, IfSome};
 
 use play::Played;
 use std::alloc::AllocError;
 use std::env::Env;
 use std::io::Stdout;
 use std::{fs, io};
-use tell::{ROOM, put, say, value};
+use tell::{ROOM, is_blank, number, put, say, value};
 
 const OUTPUT: usize = 32768;
 
@@ -22,170 +22,123 @@ const SHORT: usize = 45;
 // What the output holds before a schedule is played, to see what of it was written.
 const MARK: u8 = 165;
 
-// ---- numbers
+// ---- the sample
 
-fn wide(x: u8) -> u64
-    ensures { result ≤ 255 }
-{
-    x as u64
-}
-
-// The number that a slice's bytes make, the lowest first; of more than eight bytes, its lowest 64 bits.
-fn number(s: &[u8]) -> u64 {
-    let mut n: u64 = 0;
-    let mut i = s.len();
-    while i > 0 {
-        i -= 1;
-        n = n % 72057594037927936 * 256 + wide(s[i]);
-    }
-    n
-}
-
-// ---- the sample's parts
-
-// Where a schedule or a transcript stands in the sample.
+// A history of the sample.
 #[derive(Debug, Clone, Copy, PartialEq, Eq)]
-struct Part {
-    start: usize,
-    end: usize,
+struct History<'a> {
+    schedule: &'a [u8],
+    recorded: &'a [u8],
 }
 
-// The part whose length stands at `at`. Where the sample is cut short, the part is empty and starts at 0.
-fn part_at(s: &[u8], at: usize) -> Part
-    ensures { (result.start ≤ result.end) × (result.end ≤ length s.now) }
+// A part behind its length, and what comes behind it; nothing where the sample is cut short.
+fn part(sample: &[u8]) -> Option<(&[u8], &[u8])>
+    ensures { IfSome result (λ p. length p.0.now + length p.1.now < length sample.now) }
 {
-    if s.len() < 4 {
-        return Part { start: 0, end: 0 };
-    }
-    if s.len() - 4 < at {
-        return Part { start: 0, end: 0 };
-    }
-    let start = at + 4;
-    let n = number(&s[at..start]) as usize;
-    if s.len() - start < n {
-        return Part { start: 0, end: 0 };
-    }
-    Part {
-        start: start,
-        end: start + n,
-    }
+    let (length, rest) = sample.split_first_chunk::<4>()?;
+    rest.split_at_checked(u32::from_le_bytes(*length) as usize)
+}
+
+// The first history, and what comes behind it; nothing where the sample is cut short.
+fn first_history(sample: &[u8]) -> Option<(History<'_>, &[u8])>
+    ensures { IfSome result (λ p. length p.0.recorded.now + length p.1.now < length sample.now) }
+{
+    let (schedule, rest) = part(sample)?;
+    let (recorded, rest) = part(rest)?;
+    Some((History { schedule, recorded }, rest))
 }
 
 // ---- a history
 
-fn is_mark(out: &[u8], i: usize) -> bool {
-    if i < out.len() {
-        return out[i] == MARK;
+// The answer and the value of an entry, if it is there.
+fn say_entry(to: Stdout, name: &str, entries: &[u8], i: usize) {
+    let (entries, _) = entries.as_chunks::<ENTRY>();
+    if let Some(entry) = entries.get(i) {
+        let mut value = [0; 8];
+        value.copy_from_slice(&entry[1..]);
+        say(
+            to,
+            format_args!("{name}{} {}", entry[0], u64::from_le_bytes(value)),
+        );
     }
-    false
-}
-
-// The answer and the value of the entry at `at`.
-fn say_entry(to: Stdout, name: &[u8], s: &[u8], at: usize) {
-    if s.len() < ENTRY {
-        return;
-    }
-    if s.len() - ENTRY < at {
-        return;
-    }
-    let behind = at + 1;
-    let end = at + ENTRY;
-    say(to, name, number(&s[at..behind]));
-    say(to, b" ", number(&s[behind..end]));
 }
 
 // What differs: bytes, and the entry that has byte `i`.
-fn say_difference(to: Stdout, history: u64, played: Played, i: usize, out: &[u8], recorded: &[u8]) {
-    let at = i - i % ENTRY;
-    say(to, b"history ", history);
-    say(to, b": answer ", played.answer);
-    say(to, b", bytes ", played.written as u64);
-    say(to, b", recorded ", recorded.len() as u64);
-    say(to, b"; entry ", (i / ENTRY) as u64 + 1);
-    say_entry(to, b": ", out, at);
-    say_entry(to, b", recorded ", recorded, at);
-    put(to, b"\n");
+fn say_difference(
+    to: Stdout,
+    number: usize,
+    played: Played,
+    i: usize,
+    out: &[u8],
+    recorded: &[u8],
+) {
+    let entry = i / ENTRY;
+    say(
+        to,
+        format_args!(
+            "history {number}: answer {}, bytes {}, recorded {}; entry {}",
+            played.answer,
+            played.written,
+            recorded.len(),
+            entry + 1
+        ),
+    );
+    say_entry(to, ": ", out, entry);
+    say_entry(to, ", recorded ", recorded, entry);
+    say(to, "\n");
+}
+
+// How many bytes are the same in both, from the first on.
+fn same(a: &[u8], b: &[u8]) -> usize {
+    a.iter().zip(b).take_while(|(x, y)| x == y).count()
 }
 
 // Whether all is as recorded, and the byte behind the transcript was not written; what is not is said.
-fn judge(to: Stdout, history: u64, played: Played, out: &[u8], recorded: &[u8]) -> bool {
+fn judge(to: Stdout, number: usize, played: Played, out: &[u8], recorded: &[u8]) -> bool {
     let n = recorded.len();
-    let i = tell::same(recorded, out);
-    if played.answer == 0 && played.written == n && i == n && is_mark(out, n) {
+    let i = same(recorded, out);
+    let is_marked = out.get(n).copied() == Some(MARK);
+    if played.answer == 0 && played.written == n && i == n && is_marked {
         return true;
     }
-    say_difference(to, history, played, i, out, recorded);
+    say_difference(to, number, played, i, out, recorded);
     false
 }
 
-fn judge_array(
-    to: Stdout,
-    history: u64,
-    played: Played,
-    out: &[u8; OUTPUT],
-    recorded: &[u8],
-) -> bool {
-    judge(to, history, played, out, recorded)
-}
-
-fn replayed(to: Stdout, history: u64, schedule: &[u8], recorded: &[u8]) -> bool {
+fn replayed(to: Stdout, number: usize, history: History<'_>) -> bool {
     let mut out = [MARK; OUTPUT];
-    let played = play::lrt_play(schedule, &mut out);
-    judge_array(to, history, played, &out, recorded)
+    let played = play::lrt_play(history.schedule, &mut out);
+    judge(to, number, played, &out, history.recorded)
 }
 
-// ---- the sample
-
-fn conclude(to: Stdout, histories: u64, entries: u64) {
-    say(to, b"", histories);
-    say(to, b" histories, ", entries);
-    put(to, b" entries: as recorded\n");
-}
-
-fn cut_short(to: Stdout, history: u64) {
-    say(to, b"history ", history);
-    put(to, b": cut short\n");
-}
-
-fn replay(to: Stdout, s: &[u8]) {
-    let mut at = 0;
+fn replay(to: Stdout, sample: &[u8]) {
+    let mut rest = sample;
     let mut histories: usize = 0;
     let mut entries: usize = 0;
-    while at < s.len() {
-        let schedule = part_at(s, at);
-        let from = schedule.start;
-        let middle = schedule.end;
-        let transcript = part_at(s, middle);
-        let then = transcript.start;
-        let end = transcript.end;
+    while !rest.is_empty() {
         histories += 1;
-        if from <= at {
-            cut_short(to, histories as u64);
+        let Some((history, behind)) = first_history(rest) else {
+            say(to, format_args!("history {histories}: cut short\n"));
+            return;
+        };
+        if !replayed(to, histories, history) {
             return;
         }
-        if then <= middle {
-            cut_short(to, histories as u64);
-            return;
-        }
-        if !replayed(to, histories as u64, &s[from..middle], &s[then..end]) {
-            return;
-        }
-        entries += (end - then) / ENTRY;
-        at = end;
+        entries += history.recorded.len() / ENTRY;
+        rest = behind;
     }
-    conclude(to, histories as u64, entries as u64);
+    say(
+        to,
+        format_args!("{histories} histories, {entries} entries: as recorded\n"),
+    );
 }
 
-fn replay_text(to: Stdout, space: &[u8; ROOM], n: usize) {
-    replay(to, tell::text(to, space, n));
-}
+// ---- the files
 
 // An error's words, without the system's number behind them.
 fn words(text: &str) -> &str {
-    match text.split_once(" (os error ") {
-        Some((words, _)) => words,
-        None => text,
-    }
+    text.split_once(" (os error ")
+        .map_or(text, |(words, _)| words)
 }
 
 // Tells on standard error what failed, and why.
@@ -207,10 +160,10 @@ fn open(rt: HostRuntime, path: &[u8]) -> io::Result<fs::File> {
 
 fn replay_file(to: Stdout, file: fs::File) {
     let mut space = [0u8; ROOM];
-    let n = tell::read_all(file, &mut space);
-    replay_text(to, &space, n);
+    replay(to, tell::read_text(to, file, &mut space));
 }
 
+// The path is read into lent bytes: for a `String` there could be no memory.
 fn replay_argument(rt: HostRuntime, k: usize) -> Result<(), AllocError> {
     let mut path = [0u8; 4096];
     let length = rt.arg(k, &mut path).unwrap_or(0);
@@ -225,63 +178,41 @@ fn replay_argument(rt: HostRuntime, k: usize) -> Result<(), AllocError> {
 
 // ---- what refuses a schedule
 
-// How many bytes of the output were written.
-fn changed(out: &[u8]) -> u64 {
-    let mut n: u64 = 0;
-    let mut i = 0;
-    while i < out.len() {
-        n += tell::one_if(out[i] != MARK);
-        i += 1;
-    }
-    n
-}
-
 // The bytes that a line gives, and zeros behind them.
-fn fill(s: &mut [u8], line: &[u8]) {
-    let mut i = 0;
-    while i < s.len() {
-        s[i] = (value(line, i.wrapping_add(3)) % 256) as u8;
-        i += 1;
+fn bytes(line: &[u8]) -> [u8; SHORT] {
+    let mut bytes = [0; SHORT];
+    for (byte, word) in bytes.iter_mut().zip(line.split(is_blank).skip(3)) {
+        *byte = (number(word) % 256) as u8;
     }
+    bytes
 }
 
 // Plays a line's schedule, and says what came back and how many bytes of the output were written.
-fn played(to: Stdout, line: &[u8], s: &mut [u8], out: &mut [u8]) {
-    let room = tell::least(value(line, 1) as usize, out.len());
-    let n = tell::least(value(line, 2) as usize, s.len());
-    fill(s, line);
-    let r = play::lrt_play(&s[..n], &mut out[..room]);
-    put(to, line);
-    say(to, b" -> ", r.answer);
-    say(to, b" ", r.written as u64);
-    say(to, b", changed ", changed(&out[..]));
-    put(to, b"\n");
-}
-
 fn refused(to: Stdout, line: &[u8]) {
-    let mut s = [0u8; SHORT];
+    let bytes = bytes(line);
     let mut out = [MARK; SHORT];
-    played(to, line, &mut s, &mut out);
-}
-
-fn each_line(to: Stdout, s: &[u8]) {
-    let mut at = 0;
-    while at < s.len() {
-        let end = tell::until(s, at, b'\n');
-        refused(to, &s[at..end]);
-        at = tell::behind(s, end);
-    }
-}
-
-fn lines(to: Stdout, space: &[u8; ROOM], n: usize) {
-    each_line(to, tell::text(to, space, n));
+    let room = SHORT.min(value(line, 1) as usize);
+    let n = SHORT.min(value(line, 2) as usize);
+    let played = play::lrt_play(&bytes[..n], &mut out[..room]);
+    let changed = out.iter().filter(|b| **b != MARK).count();
+    put(to, line);
+    say(
+        to,
+        format_args!(
+            " -> {} {}, changed {changed}\n",
+            played.answer, played.written
+        ),
+    );
 }
 
 // A line for each schedule: a name, the output's room, the schedule's length and its bytes, without the zeros behind them.
 fn refusals(rt: HostRuntime) {
+    let to = rt.stdout();
     let mut space = [0u8; ROOM];
-    let n = tell::read_all(rt.stdin(), &mut space);
-    lines(rt.stdout(), &space, n);
+    let text = tell::read_text(to, rt.stdin(), &mut space);
+    for line in text.split_inclusive(|b| *b == b'\n') {
+        refused(to, line.strip_suffix(b"\n").unwrap_or(line));
+    }
 }
 
 // The first argument names the known ends, the second the sample.

@@ -1,9 +1,13 @@
-// What the test programs share: lines of text, their words and numbers, words of a copy, and what is printed.
+// What the test programs share: a text that is read, its lines, words and numbers, words of a copy, and what is printed.
+// A text is bytes: a line that is no UTF-8 is one as any other.
 #![tactic(auto)]
 
-ghost use Rattle.std.specs.Prelude.{◌≡◌, ◌+◌, ◌≤◌, length};
+ghost use Rattle.std.specs.Prelude.{◌≡◌, ◌↔◌, ◌-◌, ◌<◌, ◌≤◌, length, IsTrue};
+ghost use Rattle.std.specs.Iterator.{at_most};
 
+use std::fmt::Display;
 use std::io::{Read, Stdout};
+use std::ops::Range;
 
 // One byte more than a text may have, so that a longer one is seen.
 pub const ROOM: usize = 400001;
@@ -11,143 +15,71 @@ pub const ROOM: usize = 400001;
 // Words that differ are listed up to this many; of more, their number and a digest are told.
 const LISTED: u64 = 12;
 
-const TOP: u64 = 18446744073709551615;
-
 // The largest number that ten times itself and a digit more may follow.
-const TENTH: u64 = TOP / 10;
+const TENTH: u64 = u64::MAX / 10;
 
 const PRIME: u64 = 1000003;
 
 // ---- what is printed
 
-// Writes a text. What cannot be written is lost.
+// Writes bytes as they stand. What cannot be written is lost.
 pub fn put(to: Stdout, text: &[u8]) {
     let _ = to.write_all(text);
 }
 
-pub fn say(to: Stdout, text: &[u8], x: u64) {
-    put(to, text);
-    let _ = to.print(x);
+// Likewise.
+pub fn say(to: Stdout, what: impl Display + Drop) {
+    let _ = to.print(what);
 }
 
-// ---- lines and words
+// ---- a text
 
-// Reads a whole text, as far as there is room: how many bytes it has. It ends where a read fails.
-pub fn read_all<R: Read + Drop>(mut from: R, space: &mut [u8; ROOM]) -> usize {
+// Reads as far as there is room, or until a read fails. A loop, and a count: only a read says how many bytes it brought.
+fn read_all<R: Read + Drop>(mut from: R, space: &mut [u8; ROOM]) -> &[u8]
+    ensures { length result.now ≤ ROOM }
+{
     let mut done = 0;
-    while done < ROOM {
-        let n = from.read(&mut space[done..]).unwrap_or(0);
-        if n == 0 {
-            return done;
-        }
+    while let Ok(n @ 1..) = from.read(&mut space[done..]) {
         done += n;
     }
-    done
+    &space[..done]
 }
 
-// The text that was read; no bytes where there was no room for it.
-pub fn text(to: Stdout, s: &[u8], n: usize) -> &[u8] {
-    if s.len() <= n {
-        put(to, b"the text is too long\n");
-        return &s[..0];
-    }
-    &s[0..n]
-}
-
-// The first place from `at` on where byte `b` stands, or the text's end.
-pub fn until(s: &[u8], at: usize, b: u8) -> usize
-    requires { at ≤ length s.now }
-    ensures { (at ≤ result) × (result ≤ length s.now) }
+// A whole text. Where there is no room for it that is said, and it has no bytes.
+pub fn read_text<R: Read + Drop>(to: Stdout, from: R, space: &mut [u8; ROOM]) -> &[u8]
+    ensures { length result.now < ROOM }
 {
-    for i in at..s.len() {
-        if s[i] == b {
-            return i;
-        }
+    let text = read_all(from, space);
+    if text.len() == ROOM {
+        say(to, "the text is too long\n");
+        return &[];
     }
-    s.len()
+    text
 }
 
-// The place behind one that is not past the text's end.
-pub fn behind(s: &[u8], end: usize) -> usize
-    requires { end ≤ length s.now }
-    ensures { result ≡ end + 1 }
+// What stands between two words of a line.
+pub fn is_blank(b: &u8) -> bool
+    ensures { IsTrue result ↔ (b.now ≡ 32) }
 {
-    end + 1
+    *b == b' '
 }
 
-// Word `k` of a line, the first being 0, with a blank between two; no bytes where there is none.
-pub fn word(s: &[u8], k: usize) -> &[u8] {
-    let mut at = 0;
-    let mut j = 0;
-    while j < k {
-        let end = until(s, at, b' ');
-        if s.len() <= end {
-            return &s[..0];
-        }
-        at = end + 1;
-        j += 1;
-    }
-    let end = until(s, at, b' ');
-    &s[at..end]
-}
-
-// Name `k` of a list, behind a blank.
-pub fn put_name(to: Stdout, names: &[u8], k: usize) {
-    put(to, b" ");
-    put(to, word(names, k));
-}
-
-// How far `a` is the same as `b`.
-pub fn same(a: &[u8], b: &[u8]) -> usize {
-    let mut i = 0;
-    while i < a.len() {
-        if b.len() <= i {
-            return i;
-        }
-        if a[i] != b[i] {
-            return i;
-        }
-        i += 1;
-    }
-    i
-}
-
-fn equal(a: &[u8], b: &[u8]) -> bool {
-    if a.len() != b.len() {
-        return false;
-    }
-    same(a, b) == a.len()
-}
-
-// Which of these names a word is, the first being 0; their number where it is none.
-pub fn which(names: &[u8], w: &[u8]) -> usize {
-    let mut k = 0;
-    let mut at = 0;
-    while at < names.len() {
-        let end = until(names, at, b' ');
-        if equal(&names[at..end], w) {
-            return k;
-        }
-        at = end + 1;
-        k += 1;
-    }
-    k
+// Word `k` of a line, the first being 0; no bytes where there is none.
+pub fn word(line: &[u8], k: usize) -> &[u8] {
+    line.split(is_blank).nth(k).unwrap_or(&[])
 }
 
 // ---- numbers
 
 fn digit(b: u8) -> u64 {
-    if b < b'0' {
-        return 0;
+    match b {
+        b'0'..=b'9' => u64::from(b - b'0'),
+        _ => 0,
     }
-    if b < b'9' + 1 {
-        return (b - b'0') as u64;
-    }
-    0
 }
 
 // The number with one digit more; a letter is a size.
-fn more(n: u64, b: u8) -> u64 {
+fn longer(n: u64, b: u8) -> u64 {
     match b {
         b'S' => read::SLOTS as u64,
         b'G' => read::GUARDS as u64,
@@ -155,137 +87,113 @@ fn more(n: u64, b: u8) -> u64 {
         b'W' => table::WORDS as u64,
         b'R' => read::LOG_ROOM as u64,
         b'L' => read::LOG_WORDS as u64,
-        b'T' => TOP,
+        b'T' => u64::MAX,
         _ => (n % (TENTH + 1) * 10).wrapping_add(digit(b)),
     }
 }
 
-fn joined(sum: u64, n: u64, minus: bool) -> u64 {
-    if minus {
-        return sum.wrapping_sub(n);
-    }
-    sum.wrapping_add(n)
+fn term(digits: &[u8]) -> u64 {
+    digits.iter().fold(0, |n, b| longer(n, *b))
 }
 
-fn joins(b: u8) -> bool {
-    b == b'+' || b == b'-'
+// The first term less the others.
+fn difference(terms: &[u8]) -> u64 {
+    let mut terms = terms.split(|b| *b == b'-').map(term);
+    let first = terms.next().unwrap_or(0);
+    terms.fold(first, |rest, x| rest.wrapping_sub(x))
 }
 
 // What a word says: decimal numbers and sizes (S slots, G guards, P pairs, W words, R log room, L log words, T the largest number),
 // with + and - between them.
-pub fn number(w: &[u8]) -> u64 {
-    let mut sum: u64 = 0;
-    let mut n: u64 = 0;
-    let mut minus = false;
-    let mut i = 0;
-    while i < w.len() {
-        let b = w[i];
-        if joins(b) {
-            sum = joined(sum, n, minus);
-            n = 0;
-            minus = b == b'-';
-        } else {
-            n = more(n, b);
-        }
-        i += 1;
-    }
-    joined(sum, n, minus)
+pub fn number(word: &[u8]) -> u64 {
+    word.split(|b| *b == b'+')
+        .map(difference)
+        .fold(0, |sum: u64, x| sum.wrapping_add(x))
 }
 
 // The number that word `k` of a line says; 0 where there is none.
-pub fn value(s: &[u8], k: usize) -> u64 {
-    number(word(s, k))
-}
-
-// The smaller number: as much as is asked for, and no more than there is.
-pub fn least(n: usize, most: usize) -> usize
-    ensures { result ≤ most }
-{
-    if n < most {
-        return n;
-    }
-    most
+pub fn value(line: &[u8], k: usize) -> u64 {
+    number(word(line, k))
 }
 
 // ---- words of a copy
 
-// The word at a place, and zero past the end.
-fn at(w: &[u64], i: usize) -> u64 {
-    if i < w.len() {
-        return w[i];
-    }
-    0
+// The word at a place; a zero stands for each behind the last one.
+fn word_at(words: &[u64], i: usize) -> u64 {
+    words.get(i).copied().unwrap_or(0)
 }
 
-// One for what holds: to count, or to say.
-pub fn one_if(b: bool) -> u64
-    ensures { result ≤ 1 }
-{
-    if b { 1 } else { 0 }
+// The places and the words that are not as they were before.
+#[derive(Drop)]
+struct ChangedWords<'a> {
+    before: &'a [u64],
+    after: &'a [u64],
+    places: Range<usize>,
+}
+
+fn changes<'a>(before: &'a [u64], after: &'a [u64]) -> ChangedWords<'a> {
+    ChangedWords {
+        before,
+        after,
+        places: 0..after.len(),
+    }
+}
+
+impl Iterator for ChangedWords<'_> {
+    type Item = (usize, u64);
+
+    ghost remaining = { λ s. at_most (s.places.end - s.places.start) };
+
+    fn next(&mut self) -> Option<(usize, u64)> {
+        let before = self.before;
+        let after = self.after;
+        let i = self
+            .places
+            .find(|i| word_at(before, *i) != word_at(after, *i))?;
+        Some((i, word_at(after, i)))
+    }
 }
 
 fn mix(h: u64, x: u64) -> u64 {
     h % PRIME * 31 + x % PRIME
 }
 
-// The digest with a word more, by its place; a zero adds nothing, nor a word that is as it was.
-fn mix_word(h: u64, i: usize, x: u64, y: u64) -> u64 {
-    if y == 0 || y == x {
-        return h;
-    }
-    mix(mix(h, i as u64), y)
+// A number that the changed words and their places make; a zero adds nothing.
+fn digest(changes: ChangedWords<'_>) -> u64 {
+    changes
+        .filter(|(_, x)| *x != 0)
+        .fold(0, |h, (i, x)| mix(mix(h, i as u64), x))
 }
 
-// The words of `b` that are not those of `a`: how many, and a number that they make.
+// The words that are not as they were before: how many, and a number that they make.
 #[derive(Debug, Clone, Copy, PartialEq, Eq)]
 pub struct Differing {
     pub words: u64,
     pub digest: u64,
 }
 
-pub fn apart(a: &[u64], b: &[u64]) -> Differing {
-    let mut n: u64 = 0;
-    let mut h: u64 = 0;
-    let mut i = 0;
-    while i < b.len() {
-        let x = at(a, i);
-        n += one_if(x != b[i]);
-        h = mix_word(h, i, x, b[i]);
-        i += 1;
-    }
+pub fn apart(before: &[u64], after: &[u64]) -> Differing {
     Differing {
-        words: n,
-        digest: h,
+        words: changes(before, after).count() as u64,
+        digest: digest(changes(before, after)),
     }
 }
 
-fn say_word(to: Stdout, i: usize, x: u64) {
-    say(to, b" ", i as u64);
-    say(to, b":", x);
+fn list(to: Stdout, changes: ChangedWords<'_>) {
+    for (i, x) in changes {
+        say(to, format_args!(" {i}:{x}"));
+    }
 }
 
-// The places and the words of `b` that are not those of `a`.
-fn list(to: Stdout, a: &[u64], b: &[u64]) {
-    let mut i = 0;
-    while i < b.len() {
-        if at(a, i) != b[i] {
-            say_word(to, i, b[i]);
+// What words became, under a name; nothing where they are as before.
+pub fn say_words(to: Stdout, name: &str, before: &[u64], after: &[u64]) {
+    let Differing { words, digest } = apart(before, after);
+    match words {
+        0 => {}
+        1..=LISTED => {
+            say(to, name);
+            list(to, changes(before, after));
         }
-        i += 1;
+        _ => say(to, format_args!("{name} {words} in all, digest {digest}")),
     }
-}
-
-// What became of words `a`, under a name; nothing where they are the same.
-pub fn say_words(to: Stdout, name: &[u8], a: &[u64], b: &[u64]) {
-    let d = apart(a, b);
-    if d.words == 0 {
-        return;
-    }
-    put(to, name);
-    if d.words <= LISTED {
-        list(to, a, b);
-        return;
-    }
-    say(to, b" ", d.words);
-    say(to, b" in all, digest ", d.digest);
 }

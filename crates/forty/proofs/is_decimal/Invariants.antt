@@ -1,9 +1,0 @@
--- The loop goes over every byte.
-use Rattle.std.proofs.Common.{◌-◌, ◌≤◌, length}
-use Rattle.forty.proofs.is_decimal.Given as goal
-
-abbrev pub invariant-loop-i : goal.invariant-loop-i
-invariant-loop-i l = l.i ≤ length l.w
-
-abbrev pub decreases-loop-i : goal.decreases-loop-i
-decreases-loop-i l = length l.w - l.i

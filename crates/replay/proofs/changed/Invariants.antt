@@ -1,9 +1,0 @@
--- At most one is counted for each byte.
-use Rattle.std.proofs.Common.{◌-◌, ◌≤◌, length}
-use Rattle.replay.proofs.changed.Given as goal
-
-abbrev pub invariant-loop-i : goal.invariant-loop-i
-invariant-loop-i l = (l.i ≤ length l.out) × (l.n ≤ l.i)
-
-abbrev pub decreases-loop-i : goal.decreases-loop-i
-decreases-loop-i l = length l.out - l.i
