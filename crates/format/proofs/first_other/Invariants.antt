@@ -7,7 +7,4 @@ use Rattle.format.specs.Schedule.{start_of, other_at, first_other}
 use Rattle.format.proofs.first_other.Given as goal
 
 abbrev pub invariant-loop-j : goal.invariant-loop-j
-invariant-loop-j l = (l.j ≤ l.m) × (start_of (l.i + 1 + l.m) ≤ length l.s) × (first_other l.s l.i l.m ≡ seek (other_at l.s l.i) l.j (l.m - l.j))
-
-abbrev pub decreases-loop-j : goal.decreases-loop-j
-decreases-loop-j l = l.m - l.j
+invariant-loop-j l = (start_of (l.i + 1 + l.m) ≤ length l.s) × (first_other l.s l.i l.m ≡ seek (other_at l.s l.i) l.j (l.m - l.j))
