@@ -1,8 +1,9 @@
 -- What the tests of a schedule's bytes say of the rules: the mark, a record that is not bad, and a file with nothing wrong.
-use Prim.Native.Nat.{ℕ, ◌+◌, ◌-◌, ◌%◌, ◌≤◌, ◌<◌}
+use Prim.Native.Nat.{ℕ, zero, suc, ◌+◌, ◌-◌, ◌%◌, ◌≤◌, ◌<◌}
 use mathlib.Core.Path.{◌≡◌, refl, sym, ap, ◌∙◌}
 use mathlib.Core.Bool.{Bool, true, false, not, ◌&&◌}
 use mathlib.Core.List.{List, [], ◌∷◌}
+use native.Mathlib.Nat.{zero-add}
 use native.Mathlib.Omega.{arith}
 use borrow.Author.Tests.{lt-ltb, le-ltb, le-leb, lt-leb, eq-eqb, ne_eqb, leb-true, eqb-true, eqb-false, not-true, not-false}
 use lib.Dec.{eqb, leb}
@@ -10,7 +11,9 @@ use lib.ListN.{length, get_or, take}
 use lib.Pointwise.{pointwise}
 use Rattle.table.proofs.Split.{split, under}
 use Rattle.table.proofs.Booleans.{both}
-use Rattle.table.proofs.Seek.{seek_bounds, seek_before, seek_found, seek_none}
+use Rattle.table.specs.Seek.{seek}
+use Rattle.std.specs.List.{list_all, range_with_len}
+use Rattle.table.proofs.Seek.{seek_zero, seek_suc_here, seek_suc_next, seek_bounds, seek_before, seek_found, seek_none}
 use Rattle.std.specs.Prelude.{Ok}
 use Rattle.format.specs.declared.Fields.{Fields}
 use Rattle.format.specs.declared.Fault.{Fault}
@@ -60,6 +63,28 @@ module _ (s : List ℕ) (at : ℕ) where
   pub members_none : (get_or s at 0 ≡ 15 → ⊥) → members_at s at ≡ 0
   unfolding members_at
   members_none n = rw (ne_eqb (get_or s at 0) 15 n, members_in)
+
+-- all pass where the first that does not is behind them
+all_pass : (f : ℕ → Bool) (a m : ℕ) → list_all f (range_with_len a m) ≡ eqb (seek (λ j. not (f j)) a m) (a + m)
+all_pass f a zero = sym (ap (λ (r : ℕ). eqb r (a + 0)) (seek_zero (λ j. not (f j)) a) ∙ eq-eqb a (a + 0) (omega arith))
+all_pass f a (suc m) =
+    split (f a)
+    (λ e.
+    let here : list_all f (range_with_len a (suc m)) ≡ list_all f (range_with_len (a + 1) m) = rw e in
+    let next : seek (λ j. not (f j)) a (suc m) ≡ seek (λ j. not (f j)) (a + 1) m =
+    seek_suc_next (λ j. not (f j)) a m (ap not e) ∙ ap (λ (b : ℕ). seek (λ j. not (f j)) b m) (omega arith) in
+    let end : a + 1 + m ≡ a + suc m = omega arith in
+    here ∙ all_pass f (a + 1) m ∙ (λ j. eqb (sym next j) (end j)))
+    (λ e.
+    let here : list_all f (range_with_len a (suc m)) ≡ false = rw e in
+    here
+    ∙ sym
+    (ap (λ (r : ℕ). eqb r (a + suc m)) (seek_suc_here (λ j. not (f j)) a m (ap not e))
+    ∙ ne_eqb a (a + suc m) (λ p. omega (arith, p))))
+
+pub all_appends_first :
+    (s : List ℕ) (i m : ℕ) → list_all (λ j. eqb (get_or s (start_of (i + 1 + j)) 0) 8) (range_with_len 0 m) ≡ eqb (first_other s i m) m
+all_appends_first s i m = all_pass (λ j. eqb (get_or s (start_of (i + 1 + j)) 0) 8) 0 m ∙ ap (eqb (first_other s i m)) (zero-add m)
 
 -- one of the calls, with as many appends behind it as belong to it
 pub record Good (s : List ℕ) (i : ℕ) : Type 0 where

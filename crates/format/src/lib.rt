@@ -1,8 +1,9 @@
 // The bytes of schedules and transcripts. A schedule is a mark, a version, and records of 20 bytes; a transcript is entries of 9.
 #![tactic(auto)]
 
-ghost use Rattle.std.specs.Prelude.{◌≡◌, ◌+◌, ◌≤◌, ◌<◌, length, drop};
-ghost use Rattle.format.specs.Schedule.{head_bytes, record_bytes, count as count_rule, start_of, marked as marked_rule, version_of, fields_at, members_in, first_other, bad_at, fault_number, flaw as flaw_rule, flaw_in, flaw_of};
+ghost use Rattle.std.specs.Prelude.{◌≡◌, ◌+◌, ◌≤◌, ◌<◌, ◌==◌, slice_index, length, drop};
+ghost use Rattle.std.specs.List.{list_all, range_with_len};
+ghost use Rattle.format.specs.Schedule.{head_bytes, record_bytes, count as count_rule, start_of, marked as marked_rule, version_of, fields_at, members_in, bad_at, fault_number, flaw as flaw_rule, flaw_in, flaw_of};
 ghost use Rattle.format.specs.Transcript.{put_rule};
 
 // How many bytes there are before the records, in one, and in a record's entry.
@@ -110,17 +111,12 @@ pub fn fields_at(s: &[u8], at: usize) -> Fields
     }
 }
 
-// The first of the `m` records behind record `i` that is no append, or `m`.
-fn first_other(s: &[u8], i: usize, m: usize) -> usize
+// Whether the `m` records behind record `i` are all appends.
+fn all_appends(s: &[u8], i: usize, m: usize) -> bool
     requires { start_of (i + 1 + m) ≤ length s.now }
-    ensures { result ≡ first_other s.now i m }
+    ensures { result ≡ list_all (λ j. slice_index s.now (start_of (i + 1 + j)) == 8) (range_with_len 0 m) }
 {
-    for j in 0..m {
-        if s[HEAD + RECORD * (i + 1 + j)] != APPEND {
-            return j;
-        }
-    }
-    m
+    (0..m).all(|j| s[HEAD + RECORD * (i + 1 + j)] == APPEND)
 }
 
 // Whether record `i` of `n` is none of the calls, or a batch whose records are not there.
@@ -134,7 +130,7 @@ fn is_bad(s: &[u8], i: usize, n: usize) -> bool
         return true;
     }
     let m = fields_at(s, at).members() as usize;
-    n - i - 1 < m || first_other(s, i, m) != m
+    n - i - 1 < m || !all_appends(s, i, m)
 }
 
 // What is wrong with records that are all whole, and how many entries they have where nothing is. Those inside a batch, which belong to

@@ -19,8 +19,11 @@ fn run(rt: &HostRuntime, buf: &[u8], n: usize, out: &mut [u8; TRANSCRIPT]) -> io
     if played.answer == 0 {
         page::write(rt, schedule, out, played.written)
     } else {
-        let flaw = format::check(schedule);
-        page::refuse(rt, played.answer, flaw.place)
+        let place = match format::check(schedule) {
+            Ok(_) => format::count(schedule),
+            Err(flaw) => flaw.place,
+        };
+        page::refuse(rt, played.answer, place)
     }
 }
 

@@ -1,4 +1,5 @@
 -- Each test that speaks against a record is the rule's.
+use Prim.Native.Nat.{ℕ}
 use mathlib.Core.Path.{◌≡◌, sym, ap, ◌∙◌}
 use mathlib.Core.Bool.{not}
 use mathlib.Core.Logic.{inl, inr}
@@ -6,7 +7,7 @@ use native.Mathlib.Omega.{arith}
 use borrow.Author.Tests.{lt-ltb}
 use lib.Dec.{eqb}
 use Rattle.format.specs.Schedule.{start_of, members_at, first_other}
-use Rattle.format.proofs.Records.{members_read, bad_low, bad_high, bad_few, bad_rest}
+use Rattle.format.proofs.Records.{all_appends_first, members_read, bad_low, bad_high, bad_few, bad_rest}
 use Rattle.format.proofs.is_bad.Goals as goal
 
 pub returns-then-call-lt1 : goal.returns-then-call-lt1
@@ -26,6 +27,5 @@ returns-else-n-i c =
     let a = c.args in
     let s = a.s.now in
     let m : c.members-m.result ≡ members_at s (start_of a.i) = members_read s (start_of a.i) c.members-m.ensures c.fields_at.ensures in
-    let f : c.first_other.result ≡ first_other s a.i (members_at s (start_of a.i)) = c.first_other.ensures ∙ ap (first_other s a.i) m in
-    (λ j. not (eqb (f j) (m j)))
+    ap not (c.all_appends.ensures ∙ all_appends_first s a.i c.members-m.result ∙ ap (λ (m : ℕ). eqb (first_other s a.i m) m) m)
     ∙ sym (bad_rest s a.i c.if-call-lt1.false c.if-call-gt-BATCH.false (omega (arith, c.if-n-i.false, m, c.requires)))
