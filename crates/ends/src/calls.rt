@@ -227,7 +227,7 @@ fn lengths(k: usize, line: &[u8], w: World) -> World {
 fn say_reply(to: Stdout, st: State, r: Reply) {
     let a = r.answer;
     let after = r.state;
-    say(to, b" -> ", table::number(a) as u64);
+    say(to, b" -> ", u8::from(a) as u64);
     say(to, b" ", r.value);
     records::say_state(to, st, after);
 }

@@ -97,7 +97,7 @@ fn fill(w: &mut [u64]) -> u64 {
     let mut i: usize = 0;
     while i < table::PAIRS {
         let k = i * 5 % table::PAIRS;
-        sum += table::number(table::add(w, key_at(k), k as u64 + 1)) as u64;
+        sum += u8::from(table::add(w, key_at(k), k as u64 + 1)) as u64;
         i += 1;
     }
     sum

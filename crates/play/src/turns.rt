@@ -209,7 +209,7 @@ fn far_of(goes: bool, a: Answer, value: u64) -> Far
 {
     Far {
         goes: goes,
-        answer: table::number(a),
+        answer: u8::from(a),
         value: value,
     }
 }
@@ -224,7 +224,7 @@ pub(crate) fn facing(n: u64, c: Control, s: Slot, e: u64) -> Far
     ensures { result ≡ facing_rule n (halt_of c s e) }
 {
     let a = halt(c, steps::holds(s, e));
-    far_of(table::number(a) == 0, a, n)
+    far_of(u8::from(a) == 0, a, n)
 }
 
 // The call is over.
@@ -241,7 +241,7 @@ fn ran_on(n: u64, m: Moved, c: Control, s: Slot, e: u64) -> Far
     ensures { result ≡ ran_on n m (halt_of c s e) }
 {
     let a = m.answer;
-    if table::number(a) != 0 {
+    if u8::from(a) != 0 {
         return far_of(false, a, n);
     }
     if m.value != 0 {

@@ -49,26 +49,11 @@ pub enum Search {
 }
 
 // An answer's number.
-pub fn number(a: Answer) -> u8
-    ensures { result ≡ number_rule a }
-{
-    match a {
-        Answer::Done => 0,
-        Answer::Length => 1,
-        Answer::Broken => 2,
-        Answer::Gone => 3,
-        Answer::NoSlot => 4,
-        Answer::Operation => 5,
-        Answer::NotNow => 6,
-        Answer::Locked => 7,
-        Answer::GuardsOpen => 8,
-        Answer::NoGuard => 9,
-        Answer::FourGuards => 10,
-        Answer::LogFull => 11,
-        Answer::SlotsFull => 12,
-        Answer::Held => 13,
-        Answer::Declined => 14,
-        Answer::None => 15,
+impl From<Answer> for u8 {
+    ghost from_gives = { λ a n. n ≡ number_rule a };
+
+    fn from(a: Answer) -> u8 {
+        a as u8
     }
 }
 

@@ -2,7 +2,7 @@
 -- `Post` is the contract itself, as the check reads it from the source: of the arguments a, the result and the parameters at exit.
 use mathlib.Core.Path.{◌≡◌, sym, ap, ◌∙◌}
 use Rattle.table.specs.Copy.{Out}
-use Rattle.table.proofs.number.Reads as number
+use Rattle.table.proofs.U8FromAnswer.from.Reads as number
 use Rattle.table.proofs.fit.Reads as fit
 use Rattle.table.proofs.lawful.Reads as lawful
 use Rattle.table.proofs.zero.Reads as zero

@@ -13,7 +13,7 @@ use Rattle.table.proofs
 -- ---- of numbers
 
 abbrev pub NumberPromise : (Answer → ℕ) → Type 0
-NumberPromise = Keeps1 (typed tt proofs.number.Kinds.ps) (proofs.number.Reads.Post tt)
+NumberPromise = Keeps1 (typed tt proofs.U8FromAnswer.from.Kinds.ps) (proofs.U8FromAnswer.from.Reads.Post tt)
 
 abbrev pub LawfulPromise : (ℕ → ℕ → ℕ → Bool) → Type 0
 LawfulPromise f =

@@ -9,4 +9,4 @@ returns c =
     let a = c.args in
     let h : c.halt-a.result ≡ halt_of a.c a.s a.e =
     c.halt-a.ensures ∙ ap (halt a.c.phase a.c.job) c.holds.ensures in
-    c.far_of.ensures ∙ (λ j. far (eqb (c.number.ensures j) 0) c.halt-a.result a.n) ∙ ap (facing a.n) h
+    c.far_of.ensures ∙ (λ j. far (eqb (c.from.ensures j) 0) c.halt-a.result a.n) ∙ ap (facing a.n) h
