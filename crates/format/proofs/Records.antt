@@ -17,7 +17,7 @@ use Rattle.table.proofs.Seek.{seek_zero, seek_suc_here, seek_suc_next, seek_boun
 use Rattle.std.specs.Prelude.{Ok}
 use Rattle.format.specs.declared.Fields.{Fields}
 use Rattle.format.specs.declared.Fault.{Fault}
-use Rattle.format.specs.declared.Fault.TheVariants.{Unmarked, Version, Torn, Bad}
+use Rattle.format.specs.declared.Fault.TheVariants.{Unmarked, Version, Torn, Bad, Crowded}
 use Rattle.format.specs.Schedule.{number_at, head_bytes, record_bytes, count, start_of, marked, version_of, fields_at, members_in, members_at, entries_in, other_at, first_other, bad_at, first_bad, fault_number, flaw, flaw_in, flaw_of, number_of}
 
 -- ---- the mark
@@ -201,9 +201,17 @@ pub record Flawless (s : List ℕ) : Type 0 where
   pub good : (i : ℕ) → i < count s → Good s i
   pub entries : flaw_of s ≡ Ok (entries_in s)
 
+-- no fault has the number 0
+pub some_number : (f : Fault) → fault_number f ≡ 0 → ⊥
+some_number Unmarked z = omega arith
+some_number Version z = omega arith
+some_number Torn z = omega arith
+some_number Bad z = omega arith
+some_number Crowded z = omega arith
+
 module _ (s : List ℕ) (h : number_of (flaw_of s) ≡ 0) where
-  no_flaw : {C : Type 0} (a : Fault) (i : ℕ) → (fault_number a ≡ 0 → ⊥) → flaw_of s ≡ flaw a i → C
-  no_flaw a i n e = absurd (n (sym (ap number_of e) ∙ h))
+  no_flaw : {C : Type 0} (a : Fault) (i : ℕ) → flaw_of s ≡ flaw a i → C
+  no_flaw a i e = absurd (some_number a (sym (ap number_of e) ∙ h))
 
   pub flawless : Flawless s
   flawless =
@@ -216,13 +224,13 @@ module _ (s : List ℕ) (h : number_of (flaw_of s) ≡ 0) where
       (λ x.
       let t = eqb-true ((length s - head_bytes) % record_bytes) 0 x in
       let f = flaw_whole s m v t in
-      under (first_bad s (count s)) (count s) (λ u. no_flaw Bad _ (λ z. omega arith) (f ∙ flaw_bad s u))
+      under (first_bad s (count s)) (count s) (λ u. no_flaw Bad _ (f ∙ flaw_bad s u))
       (λ u.
       record {
         whole = omega (arith, t, marked_long s m);
         good = λ i l. not_bad_good s i (seek_before (bad_at s) (count s) i (omega arith));
         entries = f ∙ flaw_none s u;
       }))
-      (λ x. no_flaw Torn _ (λ z. omega arith) (flaw_torn s m v (eqb-false ((length s - head_bytes) % record_bytes) 0 x))))
-      (λ w. no_flaw Version _ (λ z. omega arith) (flaw_version s m (eqb-false (version_of s) 1 w))))
-      (λ m. no_flaw Unmarked _ (λ z. omega arith) (flaw_unmarked s m))
+      (λ x. no_flaw Torn _ (flaw_torn s m v (eqb-false ((length s - head_bytes) % record_bytes) 0 x))))
+      (λ w. no_flaw Version _ (flaw_version s m (eqb-false (version_of s) 1 w))))
+      (λ m. no_flaw Unmarked _ (flaw_unmarked s m))

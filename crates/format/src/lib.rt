@@ -44,6 +44,15 @@ pub struct Flaw {
     pub place: usize,
 }
 
+// What refuses the file, wherever it was found.
+impl From<Flaw> for Fault {
+    ghost from_gives = { λ flaw fault. fault ≡ flaw.fault };
+
+    fn from(flaw: Flaw) -> Fault {
+        flaw.fault
+    }
+}
+
 // A record's fields.
 #[derive(Debug, Clone, Copy, PartialEq, Eq)]
 pub struct Fields {

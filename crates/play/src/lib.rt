@@ -10,9 +10,9 @@ ghost use Rattle.read.specs.Machine.{judged};
 ghost use Rattle.table.specs.Order.{Tidy};
 ghost use Rattle.read.specs.Calls.{lent};
 ghost use Rattle.play.specs.Schedule.{calls_in};
-ghost use Rattle.play.specs.Player.{transcript as transcript_rule, machine, reached, output, play_rule};
+ghost use Rattle.play.specs.Player.{transcript as transcript_rule, machine, reached, told, output, play_rule};
 
-use format::{ENTRY, HEAD, RECORD};
+use format::{ENTRY, Fault, HEAD, RECORD};
 use read::{LOG_WORDS, SLOTS, State, guards};
 use table::{Search, WORDS};
 use write::steps;
@@ -24,9 +24,6 @@ pub struct Played {
     pub answer: u64,
     pub written: usize,
 }
-
-// The output is too short.
-const CROWDED: u64 = 25;
 
 // Where the records of a part led: the machine's state, and how many bytes were read and written.
 #[derive(Debug, Clone, Copy, PartialEq, Eq)]
@@ -105,30 +102,31 @@ fn play_on(
     }
 }
 
-// Plays a schedule. What refuses it is found before anything is written.
-pub fn lrt_play(schedule: &[u8], out: &mut [u8]) -> Played
-    ensures { output result out.new ≡ play_rule schedule.now out.old }
+// Plays a schedule on a fresh machine, and says how many bytes were written. What refuses it is found before anything is.
+fn transcribe(schedule: &[u8], out: &mut [u8]) -> Result<usize, Fault>
+    ensures { output (told result) out.new ≡ play_rule schedule.now out.old }
 {
-    let flaw = format::check(schedule);
-    if flaw.answer != 0 {
-        return Played {
-            answer: flaw.answer,
-            written: 0,
-        };
-    }
-    if out.len() < ENTRY * flaw.entries {
-        return Played {
-            answer: CROWDED,
-            written: 0,
-        };
+    let entries = format::check(schedule)?;
+    if out.len() < ENTRY * entries {
+        return Err(Fault::Crowded);
     }
     let mut left = [0u64; WORDS];
     let mut right = [0u64; WORDS];
     let mut log = [0u64; LOG_WORDS];
     let st = read::fresh_state();
     let r = play_on(st, &schedule[HEAD..], out, &mut left, &mut right, &mut log);
-    Played {
-        answer: 0,
-        written: r.written,
+    Ok(r.written)
+}
+
+// The same, with the number of what refuses a schedule, or 0.
+pub fn lrt_play(schedule: &[u8], out: &mut [u8]) -> Played
+    ensures { output result out.new ≡ play_rule schedule.now out.old }
+{
+    match transcribe(schedule, out) {
+        Ok(written) => Played { answer: 0, written },
+        Err(fault) => Played {
+            answer: u64::from(fault),
+            written: 0,
+        },
     }
 }
