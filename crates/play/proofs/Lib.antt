@@ -7,6 +7,7 @@ pub mod Refusals
 pub mod Run
 pub mod Turned
 pub mod Gathered
+pub mod Facing
 pub mod Going
 pub mod Plays
 pub mod Computes

@@ -15,6 +15,7 @@ ghost use Rattle.play.specs.Player.{transcript as transcript_rule, machine, reac
 use format::{ENTRY, Fault, HEAD, RECORD};
 use read::{LOG_WORDS, SLOTS, State, guards};
 use table::{Search, WORDS};
+use turns::Far;
 use write::steps;
 
 // What came of a schedule: 0, or what refuses it, and how many bytes were written.
@@ -55,44 +56,49 @@ fn play_on(
     let mut to = 0;
     while from < end {
         let call = schedule::decode(s, from);
-        let mut far = turns::none();
-        if turns::is_going(call) {
-            let p = c.phase;
-            let mut k = steps::place(p);
-            far = turns::facing(0, c, slots[k], snaps[k]);
-            while far.goes {
-                let m = steps::advance_by(Search::Halve, c, slots[k], snaps[k], left, right, log);
-                // A step leaves its slot as it is, or frees it.
-                let t = m.slot;
-                let own = slots[k];
-                if own.used != t.used {
-                    let gone = guards::freed(c.free, own);
-                    slots[k] = gone;
+        let (answer, value) = if call.is_going() {
+            let mut k = steps::place(c.phase);
+            let mut far = turns::facing(0, c, slots[k], snaps[k]);
+            loop {
+                match far {
+                    Far::Over(answer, value) => break (answer, value),
+                    Far::Goes(n) => {
+                        let m = steps::advance_by(
+                            Search::Halve,
+                            c,
+                            slots[k],
+                            snaps[k],
+                            left,
+                            right,
+                            log,
+                        );
+                        // A step leaves its slot as it is, or frees it.
+                        if slots[k].used != m.slot.used {
+                            slots[k] = guards::freed(c.free, slots[k]);
+                        }
+                        snaps[k] = m.snapshot;
+                        c = m.control;
+                        k = steps::place(c.phase);
+                        far = turns::went_on(call, n, m, c, slots[k], snaps[k]);
+                    }
                 }
-                snaps[k] = m.snapshot;
-                c = m.control;
-                let p = c.phase;
-                k = steps::place(p);
-                far = turns::went_on(call, far.value, m, c, slots[k], snaps[k]);
             }
-            from += RECORD;
         } else {
-            let i = turns::named(call, c.free);
+            let i = call.slot(c.free);
             // Any slot stands for one that is not there: it is left as it is.
             let k = i % SLOTS;
             let m = turns::turn(s, from, call, i, c, slots[k], left, right, log);
-            let own = m.slot;
-            slots[k] = own;
+            slots[k] = m.slot;
             c = m.control;
-            far = turns::over(m);
-            from = schedule::behind(s, from, call);
-        }
-        format::put(out, to, far.answer, far.value);
+            (m.answer, m.value)
+        };
+        format::put(out, to, u8::from(answer), value);
+        from = schedule::behind(s, from, call);
         to += ENTRY;
     }
     let after = State {
         control: c,
-        slots: slots,
+        slots,
         snapshots: snaps,
     };
     Reached {

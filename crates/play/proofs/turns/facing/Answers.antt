@@ -1,12 +1,17 @@
 -- What halts the next step, and whether anything does.
-use mathlib.Core.Path.{◌≡◌, ap, ◌∙◌}
-use lib.Dec.{eqb}
-use Rattle.play.specs.Turns.{halt, halt_of, far, facing}
+use mathlib.Core.Path.{◌≡◌, sym, ap, ◌∙◌}
+use Rattle.play.specs.Turns.{halt, halt_of, facing}
+use Rattle.play.proofs.Facing.{facing_over}
 use Rattle.play.proofs.turns.facing.Goals as goal
+use Rattle.play.proofs.turns.facing.Goals.{After-halt}
 
-pub returns : goal.returns
-returns c =
-    let a = c.args in
-    let h : c.halt-a.result ≡ halt_of a.c a.s a.e =
-    c.halt-a.ensures ∙ ap (halt a.c.phase a.c.job) c.holds.ensures in
-    c.far_of.ensures ∙ (λ j. far (eqb (c.from.ensures j) 0) c.halt-a.result a.n) ∙ ap (facing a.n) h
+halts : (c : After-halt) → c.halt.result ≡ halt_of c.args.c c.args.s c.args.e
+halts c = c.halt.ensures ∙ ap (halt c.args.c.phase c.args.c.job) c.holds.ensures
+
+pub returns-in-Done : goal.returns-in-Done
+returns-in-Done c = sym (ap (facing c.args.n) (sym (halts (goal.at.returns-in-Done c).After-halt) ∙ c.in-Done.is))
+
+pub returns-in_default : goal.returns-in_default
+returns-in_default c =
+    let n = c.args.n in
+    sym (facing_over n c.halt.result c.in_default.not-Done) ∙ ap (facing n) (halts (goal.at.returns-in_default c).After-halt)

@@ -1,23 +1,20 @@
 -- The rule's case under the tests that led there.
 use mathlib.Core.Path.{sym, ◌∙◌}
-use borrow.Author.Tests.{eq-eqb, ne_eqb}
-use Rattle.table.specs.Answers.{number}
-use Rattle.play.specs.Turns.{ran_on}
+use Rattle.play.specs.Turns.{halt_of}
+use Rattle.play.proofs.Facing.{ran_over, ran_last, ran_more}
 use Rattle.play.proofs.turns.ran_on.Goals as goal
 
-pub returns-then-from-ne0 : goal.returns-then-from-ne0
-returns-then-from-ne0 c =
-    let m = c.args.m in
-    c.far_of.ensures ∙ sym (rw (ne_eqb (number m.answer) 0 (λ z. c.if-from-ne0.true (c.from.ensures ∙ z)), ran_on))
+pub returns-in-Done : goal.returns-in-Done
+returns-in-Done c =
+    let a = c.args in
+    c.facing.ensures ∙ sym (ran_more a.n a.m (halt_of a.c a.s a.e) c.in-Done.is c.if-m-eq0.true)
 
-pub returns-then-m-ne0 : goal.returns-then-m-ne0
-returns-then-m-ne0 c =
-    let m = c.args.m in
-    c.far_of-then-m-ne0.ensures
-    ∙ sym (rw (eq-eqb (number m.answer) 0 (sym c.from.ensures ∙ c.if-from-ne0.false), ne_eqb m.value 0 c.if-m-ne0.true, ran_on))
+pub returns-in-Done-2 : goal.returns-in-Done-2
+returns-in-Done-2 c =
+    let a = c.args in
+    sym (ran_last a.n a.m (halt_of a.c a.s a.e) c.in-Done-2.is c.if-m-eq0.false)
 
-pub returns : goal.returns
-returns c =
-    let m = c.args.m in
-    c.facing.ensures
-    ∙ sym (rw (eq-eqb (number m.answer) 0 (sym c.from.ensures ∙ c.if-from-ne0.false), eq-eqb m.value 0 c.if-m-ne0.false, ran_on))
+pub returns-in_default : goal.returns-in_default
+returns-in_default c =
+    let a = c.args in
+    sym (ran_over a.n a.m (halt_of a.c a.s a.e) c.in_default.not-Done)

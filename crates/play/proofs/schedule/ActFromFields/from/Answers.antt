@@ -14,7 +14,7 @@ use Rattle.format.specs.declared.Fields.{Fields}
 use Rattle.format.specs.Schedule.{members_in}
 use Rattle.play.specs.Schedule.{calls_by, call_of}
 use Rattle.play.proofs.Calls.{by_number}
-use Rattle.play.proofs.schedule.act_of.Goals as goal
+use Rattle.play.proofs.schedule.ActFromFields.from.Goals as goal
 
 -- only a batch has records that belong to it
 none : (f : Fields) → (f.call ≡ 15 → ⊥) → 0 ≡ members_in f
