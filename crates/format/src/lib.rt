@@ -105,19 +105,29 @@ fn rest_at(s: &[u8], at: usize) -> &[u8]
     s.get(at..).unwrap_or(&[])
 }
 
+// One that is cut short: what is missing is 0. It is seldom asked for, and its array would be cleared for each whole record too.
+#[cold]
+#[inline(never)]
+fn fields_short(s: &[u8], at: usize) -> Fields
+    requires { length s.now < at + record_bytes }
+    ensures { result ≡ fields_at s.now at }
+{
+    let rest = rest_at(s, at);
+    let mut bytes = [0; RECORD];
+    bytes[..rest.len()].copy_from_slice(rest);
+    fields_of(&bytes)
+}
+
 // The record that begins at byte `at`. Bytes past the end are 0.
 pub fn fields_at(s: &[u8], at: usize) -> Fields
     ensures { result ≡ fields_at s.now at }
 {
-    let rest = rest_at(s, at);
-    match rest.first_chunk::<RECORD>() {
-        Some(record) => fields_of(record),
-        None => {
-            let mut record = [0; RECORD];
-            record[..rest.len()].copy_from_slice(rest);
-            fields_of(&record)
-        }
+    if let Some(rest) = s.get(at..)
+        && let Some(bytes) = rest.first_chunk()
+    {
+        return fields_of(bytes);
     }
+    fields_short(s, at)
 }
 
 // Whether the `m` records behind record `i` are all appends.

@@ -8,7 +8,7 @@ use lib.ListN.{get_or}
 use Rattle.std.specs.Prelude.{Ok}
 use Rattle.format.specs.Schedule.{record_bytes, count, start_of, members_at, bad_at}
 use Rattle.format.proofs.Records.{members_read, members_none, lone_good}
-use Rattle.format.proofs.Checks.{Checks, checks_start, checks_end, checks_bad, checks_next}
+use Rattle.format.proofs.Checks.{Checks, checks_end, checks_bad, checks_next}
 use Rattle.format.proofs.check_records.Invariants.{place_of, Before}
 use Rattle.format.proofs.check_records.Goals as goal
 use Rattle.format.proofs.check_records.Goals.{After-members-m, Joined-call-lt1, then-call-lt1+else-is_bad, else-call-lt1+else-call-ge-BATCH}
@@ -52,14 +52,6 @@ next c =
           (omega (arith, w.at-is), passed s v.3 l (lone_good s (place_of at) low high) none (omega (arith, w.inside-is)) to)
     ]
 
-pub loop-at-init : goal.loop-at-init
-loop-at-init c = (c.requires, c.count-n.ensures, refl, record { begins = refl; checks = checks_start _ })
-
-pub is_bad-requires : goal.is_bad-requires
-is_bad-requires c =
-    let v = c.loop-at.invariant in
-    (omega (arith, v.2, v.3.begins), v.1, omega (arith, v.0, v.1))
-
 pub returns-then-is_bad : goal.returns-then-is_bad
 returns-then-is_bad c =
     let v = c.loop-at.invariant in
@@ -78,9 +70,6 @@ overflow_add-at c = omega (arith, (batch (goal.at.overflow_add-at c).After-membe
 
 pub overflow_add-at-in-loop-at : goal.overflow_add-at-in-loop-at
 overflow_add-at-in-loop-at c = omega (arith, (next (goal.at.overflow_add-at-in-loop-at c).Joined-call-lt1).1.checks.upto)
-
-pub loop-at-smaller : goal.loop-at-smaller
-loop-at-smaller c = omega (arith, (next (goal.at.loop-at-smaller c).Joined-call-lt1).0)
 
 pub loop-at-preserved : goal.loop-at-preserved
 loop-at-preserved c =

@@ -1,22 +1,18 @@
--- A record that is whole, and one with zeros for what is missing.
+-- The fields of a record that is whole are those of the file.
 use Prim.Native.Nat.{ℕ}
-use mathlib.Core.Path.{ap, ◌∙◌}
-use mathlib.Core.List.{List, ◌++◌}
-use lib.ListN.{length, take, drop, replicate}
+use mathlib.Core.Path.{◌≡◌, ap, ◌∙◌}
+use mathlib.Core.List.{List}
+use native.Mathlib.Omega.{arith}
+use lib.ListN.{length, take, drop}
+use Rattle.std.proofs.lemmas.Slice.{between_to_end}
 use Rattle.format.specs.Schedule.{fields_at, record_bytes}
-use Rattle.format.proofs.Cut.{fields_cut, fields_padded}
+use Rattle.format.proofs.Cut.{fields_cut}
 use Rattle.format.proofs.fields_at.Goals as goal
 
-pub returns-in-Some : goal.returns-in-Some
-returns-in-Some c =
+pub returns : goal.returns
+returns c =
     let a = c.args in
-    c.fields_of.ensures ∙ ap (λ (w : List ℕ). fields_at w 0) (c.in-Some.ensures.cases.same ∙ ap (take record_bytes) c.rest_at-rest.ensures)
-    ∙ fields_cut a.s.now a.at
-
-pub returns-in-None : goal.returns-in-None
-returns-in-None c =
-    let a = c.args in
-    c.fields_of-in-None.ensures
-    ∙ ap (λ (w : List ℕ). fields_at (w ++ drop (length c.rest_at-rest.result.now) (replicate record_bytes 0)) 0)
-    (c.copy_from_slice.ensures.after ∙ c.rest_at-rest.ensures)
-    ∙ fields_padded a.s.now a.at (length c.rest_at-rest.result.now)
+    let s = a.s.now in
+    let rest : c.in-Some.rest.now ≡ drop a.at s = c.in-Some.ensures.lookup.0.2 ∙ between_to_end s a.at (length s) (omega arith) in
+    c.fields_of.ensures ∙ ap (λ (w : List ℕ). fields_at w 0) (c.in-Some-first_chunk.ensures.cases.same ∙ ap (take record_bytes) rest)
+    ∙ fields_cut s a.at

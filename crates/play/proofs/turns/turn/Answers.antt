@@ -5,7 +5,6 @@ use Rattle.read.specs.Calls.{lent}
 use Rattle.write.specs.declared.Moved.{Moved}
 use Rattle.play.specs.declared.schedule.Act.{Act}
 use Rattle.play.specs.Turns.{meant_at, moved_by, turn_on}
-use native.Mathlib.Omega.{arith}
 use Rattle.table.specs.declared.Search.TheVariants.{Halve}
 use Rattle.write.proofs.Rising.{append_rising}
 use Rattle.play.proofs.turns.turn.Goals as goal
@@ -54,14 +53,3 @@ returns-in-Step c =
     let turned = λ (k : Act). turn_on (meant_at a.schedule.now a.at k) a.i a.c a.s a.left.now a.right.now a.log.now in
     ap (λ (x : Moved). lent x a.left.now a.right.now a.log.now) c.moved_as.ensures
     ∙ sym (elim c.in-Step.is [ inl step ↦ ap turned step | inr run ↦ ap turned run ])
-
--- the copies are as they were
-pub touch-requires : goal.touch-requires
-touch-requires c =
-    let p = c.requires in
-    (p.1, p.2)
-
-pub batch-requires : goal.batch-requires
-batch-requires c =
-    let p = c.requires in
-    (omega arith, p.1, p.2)

@@ -1,1 +1,0 @@
--- No more records than are there.
