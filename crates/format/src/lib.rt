@@ -53,7 +53,7 @@ impl From<Flaw> for Fault {
     }
 }
 
-// A record's fields.
+// A record's fields, as they stand in the file: the call by its number, which may be none of the calls.
 #[derive(Debug, Clone, Copy, PartialEq, Eq)]
 pub struct Fields {
     pub call: u64,
@@ -207,7 +207,8 @@ pub fn check(s: &[u8]) -> Result<usize, Flaw>
     check_records(s)
 }
 
-// An entry at byte `at` of a transcript: an answer in one byte, and a value in eight. Nothing is written where it does not fit.
+// An entry at byte `at` of a transcript: an answer in one byte, and a value in eight. Nothing is written where it does not fit, and that is
+// no error: its callers have room, and it cannot fail.
 pub fn put(out: &mut [u8], at: usize, answer: u8, value: u64)
     ensures { out.new ≡ put_rule answer value at out.old }
 {

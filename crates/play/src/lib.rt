@@ -18,7 +18,7 @@ use table::{Search, WORDS};
 use turns::Far;
 use write::steps;
 
-// What came of a schedule: 0, or what refuses it, and how many bytes were written.
+// What came of a schedule: 0, or the number of what refuses it, and how many bytes were written. This is what C gets, so it is no Result.
 #[repr(C)]
 #[derive(Debug, Clone, Copy, PartialEq, Eq)]
 pub struct Played {
@@ -54,6 +54,7 @@ fn play_on(
     let end = RECORD * (s.len() / RECORD);
     let mut from = 0;
     let mut to = 0;
+    // An index: a batch takes the records behind it along, which no iterator of std does.
     while from < end {
         let call = schedule::decode(s, from);
         let (answer, value) = if call.is_going() {

@@ -31,6 +31,7 @@ impl From<Fields> for Act {
 
     ghost from_gives = { λ f act. (members_of act ≡ members_in f) × ((os : List Op) → meant os act ≡ call_of os f) };
 
+    // The numbers are the file's: here they become calls.
     fn from(f: Fields) -> Act {
         match f.call {
             0 | 1 => Act::Create,
