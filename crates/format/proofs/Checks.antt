@@ -6,8 +6,10 @@ use mathlib.Core.Bool.{true, false}
 use mathlib.Core.List.{List, ◌∷◌}
 use native.Mathlib.Omega.{arith}
 use lib.ListN.{length, get_or}
+use Rattle.std.specs.Prelude.{Ok}
 use Rattle.table.proofs.Split.{around}
 use Rattle.table.proofs.Seek.{seek_unique, seek_none}
+use Rattle.format.specs.declared.Fault.TheVariants.{Bad}
 use Rattle.format.specs.Schedule.{head_bytes, record_bytes, count, start_of, members_at, units_from, entries_in, bad_at, first_bad, flaw, flaw_in}
 use Rattle.format.proofs.Records.{Good, not_bad_good, lone_good, flaw_bad, flaw_none}
 use Rattle.format.proofs.Units.{units_next}
@@ -28,19 +30,19 @@ checks_start s =
     }
 
 module _ (s : List ℕ) {inside i : ℕ} (c : Checks s inside i) where
-  pub checks_end : count s ≤ i → flaw_in s ≡ record { answer = 0; place = count s; entries = count s - inside }
+  pub checks_end : count s ≤ i → flaw_in s ≡ Ok (count s - inside)
   checks_end l =
       let e : count s - i ≡ 0 = omega arith in
       let n : entries_in s ≡ count s - inside =
       omega (arith, c.upto, c.counted, ap (λ (n : ℕ). length (units_from s (start_of i) 0 n)) e) in
       flaw_none s (omega (arith, seek_none (bad_at s) (count s) (λ j h. c.fine j (omega arith))))
-      ∙ (λ j. record { answer = 0; place = count s; entries = n j })
+      ∙ ap Ok n
 
   module _ (l : i < count s) where
-    pub checks_bad : bad_at s i ≡ true → flaw_in s ≡ flaw 24 i
+    pub checks_bad : bad_at s i ≡ true → flaw_in s ≡ flaw Bad i
     checks_bad b =
         let e : first_bad s (count s) ≡ i = seek_unique (bad_at s) (count s) i l b c.fine in
-        flaw_bad s (omega (arith, e)) ∙ ap (flaw 24) e
+        flaw_bad s (omega (arith, e)) ∙ ap (flaw Bad) e
 
     -- past it and the m records that belong to it
     module _ (b : bad_at s i ≡ false) {m k n : ℕ} (e : m ≡ members_at s (start_of i)) (p : k ≡ inside + m) (q : n ≡ i + m) where

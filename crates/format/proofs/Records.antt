@@ -1,17 +1,24 @@
 -- What the tests of a schedule's bytes say of the rules: the mark, a record that is not bad, and a file with nothing wrong.
-use Prim.Native.Nat.{ℕ, suc, ◌+◌, ◌-◌, ◌%◌, ◌≤◌, ◌<◌}
-use mathlib.Core.Path.{◌≡◌, sym, ap, ◌∙◌}
-use mathlib.Core.Bool.{true, false, not}
-use mathlib.Core.List.{List}
+use Prim.Native.Nat.{ℕ, zero, suc, ◌+◌, ◌-◌, ◌%◌, ◌≤◌, ◌<◌}
+use mathlib.Core.Path.{◌≡◌, refl, sym, ap, ◌∙◌}
+use mathlib.Core.Bool.{Bool, true, false, not, ◌&&◌}
+use mathlib.Core.List.{List, [], ◌∷◌}
+use native.Mathlib.Nat.{zero-add}
 use native.Mathlib.Omega.{arith}
 use borrow.Author.Tests.{lt-ltb, le-ltb, le-leb, lt-leb, eq-eqb, ne_eqb, leb-true, eqb-true, eqb-false, not-true, not-false}
 use lib.Dec.{eqb, leb}
-use lib.ListN.{length, get_or}
+use lib.ListN.{length, get_or, take}
+use lib.Pointwise.{pointwise}
 use Rattle.table.proofs.Split.{split, under}
 use Rattle.table.proofs.Booleans.{both}
-use Rattle.table.proofs.Seek.{seek_bounds, seek_before, seek_found, seek_none}
-use Rattle.format.specs.declared.Flaw.{Flaw}
-use Rattle.format.specs.Schedule.{number_at, head_bytes, record_bytes, count, start_of, marked, version_of, members_in, members_at, entries_in, other_at, first_other, bad_at, first_bad, flaw, flaw_in, flaw_of}
+use Rattle.table.specs.Seek.{seek}
+use Rattle.std.specs.List.{list_all, range_with_len}
+use Rattle.table.proofs.Seek.{seek_zero, seek_suc_here, seek_suc_next, seek_bounds, seek_before, seek_found, seek_none}
+use Rattle.std.specs.Prelude.{Ok}
+use Rattle.format.specs.declared.Fields.{Fields}
+use Rattle.format.specs.declared.Fault.{Fault}
+use Rattle.format.specs.declared.Fault.TheVariants.{Unmarked, Version, Torn, Bad, Crowded}
+use Rattle.format.specs.Schedule.{number_at, head_bytes, record_bytes, count, start_of, marked, version_of, fields_at, members_in, members_at, entries_in, other_at, first_other, bad_at, first_bad, fault_number, flaw, flaw_in, flaw_of, number_of}
 
 -- ---- the mark
 
@@ -19,17 +26,34 @@ module _ (s : List ℕ) where
   pub unmarked_short : length s < 5 → marked s ≡ false
   unmarked_short h = rw (lt-leb 5 (length s) h)
 
-  module _ (h : 5 ≤ length s) where
-    pub unmarked_first : (get_or s 0 0 ≡ 76 → ⊥) → marked s ≡ false
-    unmarked_first a = rw (le-leb 5 (length s) h, ne_eqb (get_or s 0 0) 76 a)
+and_true : (b : Bool) → (b && true) ≡ b
+and_true true = refl
+and_true false = refl
 
-    pub unmarked_second : get_or s 0 0 ≡ 76 → (get_or s 1 0 ≡ 82 → ⊥) → marked s ≡ false
-    unmarked_second a b = rw (le-leb 5 (length s) h, eq-eqb (get_or s 0 0) 76 a, ne_eqb (get_or s 1 0) 82 b)
+turned : (a b : ℕ) → eqb a b ≡ eqb b a
+turned a b = split (eqb b a) (λ e. eq-eqb a b (sym (eqb-true b a e)) ∙ sym e) (λ e. ne_eqb a b (λ p. eqb-false b a e (sym p)) ∙ sym e)
 
-    pub marked_third : get_or s 0 0 ≡ 76 → get_or s 1 0 ≡ 82 → marked s ≡ eqb (get_or s 2 0) 84
-    marked_third a b = rw (le-leb 5 (length s) h, eq-eqb (get_or s 0 0) 76 a, eq-eqb (get_or s 1 0) 82 b)
+-- how a file begins that is marked
+abbrev pub starts : List ℕ → Bool
+starts s = pointwise eqb (76 ∷ 82 ∷ 84 ∷ []) (take 3 s)
+
+pub marked_start : (s : List ℕ) → 5 ≤ length s → marked s ≡ starts s
+marked_start [] h = absurd (omega arith)
+marked_start (a ∷ []) h = absurd (omega arith)
+marked_start (a ∷ b ∷ []) h = absurd (omega arith)
+marked_start (a ∷ b ∷ c ∷ s) h =
+    rw (le-leb 5 (length (a ∷ b ∷ c ∷ s)) h) (λ j. turned a 76 j && (turned b 82 j && (turned c 84 ∙ sym (and_true (eqb 84 c))) j))
+
+-- another start, however long the file is
+pub unmarked_start : (s : List ℕ) → starts s ≡ false → marked s ≡ false
+unmarked_start s h = under (length s) 5 (unmarked_short s) (λ l. marked_start s l ∙ h)
 
 -- ---- a record that is not bad
+
+-- by the record's fields
+pub members_read : (s : List ℕ) (at : ℕ) {m : ℕ} {f : Fields} → m ≡ members_in f → f ≡ fields_at s at → m ≡ members_at s at
+unfolding members_at
+members_read s at e p = e ∙ ap members_in p
 
 module _ (s : List ℕ) (at : ℕ) where
   pub members_batch : get_or s at 0 ≡ 15 → members_at s at ≡ number_at 8 s (at + 12)
@@ -39,6 +63,28 @@ module _ (s : List ℕ) (at : ℕ) where
   pub members_none : (get_or s at 0 ≡ 15 → ⊥) → members_at s at ≡ 0
   unfolding members_at
   members_none n = rw (ne_eqb (get_or s at 0) 15 n, members_in)
+
+-- all pass where the first that does not is behind them
+all_pass : (f : ℕ → Bool) (a m : ℕ) → list_all f (range_with_len a m) ≡ eqb (seek (λ j. not (f j)) a m) (a + m)
+all_pass f a zero = sym (ap (λ (r : ℕ). eqb r (a + 0)) (seek_zero (λ j. not (f j)) a) ∙ eq-eqb a (a + 0) (omega arith))
+all_pass f a (suc m) =
+    split (f a)
+    (λ e.
+    let here : list_all f (range_with_len a (suc m)) ≡ list_all f (range_with_len (a + 1) m) = rw e in
+    let next : seek (λ j. not (f j)) a (suc m) ≡ seek (λ j. not (f j)) (a + 1) m =
+    seek_suc_next (λ j. not (f j)) a m (ap not e) ∙ ap (λ (b : ℕ). seek (λ j. not (f j)) b m) (omega arith) in
+    let end : a + 1 + m ≡ a + suc m = omega arith in
+    here ∙ all_pass f (a + 1) m ∙ (λ j. eqb (sym next j) (end j)))
+    (λ e.
+    let here : list_all f (range_with_len a (suc m)) ≡ false = rw e in
+    here
+    ∙ sym
+    (ap (λ (r : ℕ). eqb r (a + suc m)) (seek_suc_here (λ j. not (f j)) a m (ap not e))
+    ∙ ne_eqb a (a + suc m) (λ p. omega (arith, p))))
+
+pub all_appends_first :
+    (s : List ℕ) (i m : ℕ) → list_all (λ j. eqb (get_or s (start_of (i + 1 + j)) 0) 8) (range_with_len 0 m) ≡ eqb (first_other s i m) m
+all_appends_first s i m = all_pass (λ j. eqb (get_or s (start_of (i + 1 + j)) 0) 8) 0 m ∙ ap (eqb (first_other s i m)) (zero-add m)
 
 -- one of the calls, with as many appends behind it as belong to it
 pub record Good (s : List ℕ) (i : ℕ) : Type 0 where
@@ -116,7 +162,7 @@ lone_good s i l h =
 -- ---- what is wrong with a file
 
 module _ (s : List ℕ) where
-  pub flaw_unmarked : marked s ≡ false → flaw_of s ≡ flaw 21 0
+  pub flaw_unmarked : marked s ≡ false → flaw_of s ≡ flaw Unmarked 0
   unfolding flaw_of
   flaw_unmarked m = rw (m, flaw_of)
 
@@ -125,12 +171,12 @@ module _ (s : List ℕ) where
     pub marked_long : 5 ≤ length s
     marked_long = leb-true 5 (length s) (both (leb 5 (length s)) _ m).0
 
-    pub flaw_version : (version_of s ≡ 1 → ⊥) → flaw_of s ≡ flaw 22 0
+    pub flaw_version : (version_of s ≡ 1 → ⊥) → flaw_of s ≡ flaw Version 0
     unfolding flaw_of
     flaw_version v = rw (m, ne_eqb (version_of s) 1 v, flaw_of)
 
     module _ (v : version_of s ≡ 1) where
-      pub flaw_torn : ((length s - head_bytes) % record_bytes ≡ 0 → ⊥) → flaw_of s ≡ flaw 23 (count s)
+      pub flaw_torn : ((length s - head_bytes) % record_bytes ≡ 0 → ⊥) → flaw_of s ≡ flaw Torn (count s)
       unfolding flaw_of
       flaw_torn t = rw (m, eq-eqb (version_of s) 1 v, ne_eqb ((length s - head_bytes) % record_bytes) 0 t, flaw_of)
 
@@ -140,11 +186,11 @@ module _ (s : List ℕ) where
           rw (m, eq-eqb (version_of s) 1 v, eq-eqb ((length s - head_bytes) % record_bytes) 0 t, flaw_of)
 
   -- the records are looked at one after the other
-  pub flaw_bad : first_bad s (count s) < count s → flaw_in s ≡ flaw 24 (first_bad s (count s))
+  pub flaw_bad : first_bad s (count s) < count s → flaw_in s ≡ flaw Bad (first_bad s (count s))
   unfolding flaw_in
   flaw_bad u = rw (lt-ltb (first_bad s (count s)) (count s) u, flaw_in)
 
-  pub flaw_none : count s ≤ first_bad s (count s) → flaw_in s ≡ record { answer = 0; place = count s; entries = entries_in s }
+  pub flaw_none : count s ≤ first_bad s (count s) → flaw_in s ≡ Ok (entries_in s)
   unfolding flaw_in
   flaw_none u = rw (le-ltb (first_bad s (count s)) (count s) u, flaw_in)
 
@@ -153,11 +199,19 @@ module _ (s : List ℕ) where
 pub record Flawless (s : List ℕ) : Type 0 where
   pub whole : length s ≡ start_of (count s)
   pub good : (i : ℕ) → i < count s → Good s i
-  pub entries : (flaw_of s).entries ≡ entries_in s
+  pub entries : flaw_of s ≡ Ok (entries_in s)
 
-module _ (s : List ℕ) (h : (flaw_of s).answer ≡ 0) where
-  no_flaw : {C : Type 0} (a i : ℕ) → flaw_of s ≡ flaw (suc a) i → C
-  no_flaw a i e = absurd (omega (arith, h, ap (λ (f : Flaw). f.answer) e))
+-- no fault has the number 0
+pub some_number : (f : Fault) → fault_number f ≡ 0 → ⊥
+some_number Unmarked z = omega arith
+some_number Version z = omega arith
+some_number Torn z = omega arith
+some_number Bad z = omega arith
+some_number Crowded z = omega arith
+
+module _ (s : List ℕ) (h : number_of (flaw_of s) ≡ 0) where
+  no_flaw : {C : Type 0} (a : Fault) (i : ℕ) → flaw_of s ≡ flaw a i → C
+  no_flaw a i e = absurd (some_number a (sym (ap number_of e) ∙ h))
 
   pub flawless : Flawless s
   flawless =
@@ -170,13 +224,13 @@ module _ (s : List ℕ) (h : (flaw_of s).answer ≡ 0) where
       (λ x.
       let t = eqb-true ((length s - head_bytes) % record_bytes) 0 x in
       let f = flaw_whole s m v t in
-      under (first_bad s (count s)) (count s) (λ u. no_flaw 23 _ (f ∙ flaw_bad s u))
+      under (first_bad s (count s)) (count s) (λ u. no_flaw Bad _ (f ∙ flaw_bad s u))
       (λ u.
       record {
         whole = omega (arith, t, marked_long s m);
         good = λ i l. not_bad_good s i (seek_before (bad_at s) (count s) i (omega arith));
-        entries = ap (λ (f : Flaw). f.entries) (f ∙ flaw_none s u);
+        entries = f ∙ flaw_none s u;
       }))
-      (λ x. no_flaw 22 _ (flaw_torn s m v (eqb-false ((length s - head_bytes) % record_bytes) 0 x))))
-      (λ w. no_flaw 21 _ (flaw_version s m (eqb-false (version_of s) 1 w))))
-      (λ m. no_flaw 20 _ (flaw_unmarked s m))
+      (λ x. no_flaw Torn _ (flaw_torn s m v (eqb-false ((length s - head_bytes) % record_bytes) 0 x))))
+      (λ w. no_flaw Version _ (flaw_version s m (eqb-false (version_of s) 1 w))))
+      (λ m. no_flaw Unmarked _ (flaw_unmarked s m))

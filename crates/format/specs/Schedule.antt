@@ -1,7 +1,10 @@
 -- The schedule file: a mark, a version, and records of 20 bytes, each a call.
 use Rattle.std.specs.Prelude.{ℕ, zero, suc, ◌+◌, ◌-◌, ◌*◌, ◌/◌, ◌%◌, Bool, true, false, not, ◌&&◌, List, [], ◌∷◌, length, get_or, eqb, ltb, leb}
 use Rattle.table.specs.Seek.{seek}
+use Rattle.std.specs.Prelude.{Result, Ok, Err}
 use Rattle.format.specs.declared.Fields.{Fields}
+use Rattle.format.specs.declared.Fault.{Fault}
+use Rattle.format.specs.declared.Fault.TheVariants.{Unmarked, Version, Torn, Bad, Crowded}
 use Rattle.format.specs.declared.Flaw.{Flaw}
 
 -- ---- numbers in bytes, the lowest first
@@ -98,23 +101,41 @@ bad_at s i =
 abbrev pub first_bad : List ℕ → ℕ → ℕ
 first_bad s n = seek (bad_at s) 0 n
 
-abbrev pub flaw : ℕ → ℕ → Flaw
-flaw a i = record { answer = a; place = i; entries = 0 }
+-- the number that is given for a fault
+abbrev pub fault_number : Fault → ℕ
+fault_number Unmarked = 21
+fault_number Version = 22
+fault_number Torn = 23
+fault_number Bad = 24
+fault_number Crowded = 25
 
--- of records that are all whole: 24 and the first bad one, or 0 and how many entries there will be
-unfoldable pub flaw_in : List ℕ → Flaw
+abbrev pub flaw : Fault → ℕ → Result ℕ Flaw
+flaw a i = Err (record { fault = a; place = i })
+
+-- of records that are all whole: 24 and the first bad one, or how many entries there will be
+unfoldable pub flaw_in : List ℕ → Result ℕ Flaw
 flaw_in s =
     let n = count s in
     let i = first_bad s n in
-    elim (ltb i n) [ true ↦ flaw 24 i | false ↦ record { answer = 0; place = n; entries = entries_in s } ]
+    elim (ltb i n) [ true ↦ flaw Bad i | false ↦ Ok (entries_in s) ]
 
--- 21 the mark, or shorter than five bytes; 22 the version; 23 a torn record; 24 a bad one; 0 where nothing is wrong. With it the record
--- at which it was found
-unfoldable pub flaw_of : List ℕ → Flaw
+-- 21 the mark, or shorter than five bytes; 22 the version; 23 a torn record; 24 a bad one; or how many entries there will be. With what is
+-- wrong the record at which it was found
+unfoldable pub flaw_of : List ℕ → Result ℕ Flaw
 flaw_of s =
     elim (marked s) [
       | true ↦
           elim (eqb (version_of s) 1)
-          [ true ↦ elim (torn s) [ true ↦ flaw 23 (count s) | false ↦ flaw_in s ] | false ↦ flaw 22 0 ]
-      | false ↦ flaw 21 0
+          [ true ↦ elim (torn s) [ true ↦ flaw Torn (count s) | false ↦ flaw_in s ] | false ↦ flaw Version 0 ]
+      | false ↦ flaw Unmarked 0
     ]
+
+-- the number of what is wrong with a file, 0 where nothing is
+abbrev pub number_of : Result ℕ Flaw → ℕ
+number_of (Ok n) = 0
+number_of (Err f) = fault_number f.fault
+
+-- the record at which it was found, of n; n where nothing is wrong
+abbrev pub place_of : ℕ → Result ℕ Flaw → ℕ
+place_of n (Ok m) = n
+place_of n (Err f) = f.place

@@ -1,10 +1,9 @@
 // The bytes of schedules and transcripts. A schedule is a mark, a version, and records of 20 bytes; a transcript is entries of 9.
 #![tactic(auto)]
 
-mod numbers;
-
-ghost use Rattle.std.specs.Prelude.{◌≡◌, ◌+◌, ◌≤◌, ◌<◌, length};
-ghost use Rattle.format.specs.Schedule.{head_bytes, record_bytes, count as count_rule, start_of, marked as marked_rule, fields_at, members_at, first_other, bad_at, flaw as flaw_rule, flaw_in, flaw_of};
+ghost use Rattle.std.specs.Prelude.{◌≡◌, ◌+◌, ◌≤◌, ◌<◌, ◌==◌, slice_index, length, drop};
+ghost use Rattle.std.specs.List.{list_all, range_with_len};
+ghost use Rattle.format.specs.Schedule.{head_bytes, record_bytes, count as count_rule, start_of, marked as marked_rule, version_of, fields_at, members_in, bad_at, fault_number, flaw as flaw_rule, flaw_in, flaw_of};
 ghost use Rattle.format.specs.Transcript.{put_rule};
 
 // How many bytes there are before the records, in one, and in a record's entry.
@@ -14,30 +13,47 @@ pub const RECORD: usize = 20;
 
 pub const ENTRY: usize = 9;
 
-// What refuses a file: no mark, another version, a torn record, a call that is none or a batch whose records are not there.
-const UNMARKED: u64 = 21;
-
-const VERSION: u64 = 22;
-
-const TORN: u64 = 23;
-
-const BAD: u64 = 24;
-
 // The calls of an operation and of a batch of them, which is the last of the calls.
 const APPEND: u8 = 8;
 
 pub const BATCH: u8 = 15;
 
-// What is wrong with a schedule, and the record at which it was found; 0 where nothing is. With it how many entries the transcript
-// will have; 0 where something is wrong.
+// What refuses a file, by the number that is given for it: no mark, another version, a torn record, a call that is none or a batch whose
+// records are not there, and an output that is too short.
 #[derive(Debug, Clone, Copy, PartialEq, Eq)]
-pub struct Flaw {
-    pub answer: u64,
-    pub place: usize,
-    pub entries: usize,
+pub enum Fault {
+    Unmarked = 21,
+    Version = 22,
+    Torn = 23,
+    Bad = 24,
+    Crowded = 25,
 }
 
-// A record's fields.
+impl From<Fault> for u64 {
+    ghost from_gives = { λ fault number. number ≡ fault_number fault };
+
+    fn from(fault: Fault) -> u64 {
+        fault as u64
+    }
+}
+
+// What is wrong with a schedule, and the record at which it was found.
+#[derive(Debug, Clone, Copy, PartialEq, Eq)]
+pub struct Flaw {
+    pub fault: Fault,
+    pub place: usize,
+}
+
+// What refuses the file, wherever it was found.
+impl From<Flaw> for Fault {
+    ghost from_gives = { λ flaw fault. fault ≡ flaw.fault };
+
+    fn from(flaw: Flaw) -> Fault {
+        flaw.fault
+    }
+}
+
+// A record's fields, as they stand in the file: the call by its number, which may be none of the calls.
 #[derive(Debug, Clone, Copy, PartialEq, Eq)]
 pub struct Fields {
     pub call: u64,
@@ -48,97 +64,78 @@ pub struct Fields {
     pub amount: u64,
 }
 
+impl Fields {
+    // How many of the records behind it belong to it: those of a batch.
+    pub fn members(&self) -> u64
+        ensures { result ≡ members_in self.now }
+    {
+        if self.call == u64::from(BATCH) {
+            self.amount
+        } else {
+            0
+        }
+    }
+}
+
 // How many whole records there are.
 pub fn count(s: &[u8]) -> usize
     ensures { result ≡ count_rule s.now }
 {
-    if s.len() < HEAD {
-        return 0;
-    }
-    (s.len() - HEAD) / RECORD
+    s.len().saturating_sub(HEAD) / RECORD
 }
 
-// The whole record that begins at byte `at`, field by field.
-fn fields_of(s: &[u8], at: usize) -> Fields
-    requires { at + record_bytes ≤ length s.now }
-    ensures { result ≡ fields_at s.now at }
+// A whole record, field by field. Numbers stand lowest byte first.
+fn fields_of(bytes: &[u8; RECORD]) -> Fields
+    ensures { result ≡ fields_at bytes.now 0 }
 {
     Fields {
-        call: numbers::byte(s, at),
-        slot: numbers::byte(s, at + 1) as usize,
-        guard: numbers::byte(s, at + 2) as usize,
-        kind: numbers::byte(s, at + 3),
-        key: numbers::eight(s, at + 4),
-        amount: numbers::eight(s, at + 12),
+        call: u64::from(bytes[0]),
+        slot: usize::from(bytes[1]),
+        guard: usize::from(bytes[2]),
+        kind: u64::from(bytes[3]),
+        key: u64::from_le_bytes(*bytes[4..].first_chunk().unwrap()),
+        amount: u64::from_le_bytes(*bytes[12..].first_chunk().unwrap()),
     }
 }
 
-// One that is cut short: what is missing is 0.
+// The bytes from `at` on: none past the end.
+fn rest_at(s: &[u8], at: usize) -> &[u8]
+    ensures { result.now ≡ drop at s.now }
+{
+    s.get(at..).unwrap_or(&[])
+}
+
+// One that is cut short: what is missing is 0. It is seldom asked for, and its array would be cleared for each whole record too.
+#[cold]
+#[inline(never)]
 fn fields_short(s: &[u8], at: usize) -> Fields
     requires { length s.now < at + record_bytes }
     ensures { result ≡ fields_at s.now at }
 {
-    let mut whole = [0u8; RECORD];
-    let mut i = at;
-    while i < s.len() {
-        whole[i - at] = s[i];
-        i += 1;
-    }
-    fields_of(&whole, 0)
+    let rest = rest_at(s, at);
+    let mut bytes = [0; RECORD];
+    bytes[..rest.len()].copy_from_slice(rest);
+    fields_of(&bytes)
 }
 
 // The record that begins at byte `at`. Bytes past the end are 0.
 pub fn fields_at(s: &[u8], at: usize) -> Fields
     ensures { result ≡ fields_at s.now at }
 {
-    if s.len() < RECORD {
-        return fields_short(s, at);
+    if let Some(rest) = s.get(at..)
+        && let Some(bytes) = rest.first_chunk()
+    {
+        return fields_of(bytes);
     }
-    if s.len() - RECORD < at {
-        return fields_short(s, at);
-    }
-    fields_of(s, at)
+    fields_short(s, at)
 }
 
-fn marked(s: &[u8]) -> bool
-    ensures { result ≡ marked_rule s.now }
-{
-    if s.len() < HEAD {
-        return false;
-    }
-    if s[0] != 76 {
-        return false;
-    }
-    if s[1] != 82 {
-        return false;
-    }
-    s[2] == 84
-}
-
-// How many of the records behind the one at byte `at` belong to it: those of a batch.
-fn members(s: &[u8], at: usize) -> usize
-    requires { at + record_bytes ≤ length s.now }
-    ensures { result ≡ members_at s.now at }
-{
-    if s[at] != BATCH {
-        return 0;
-    }
-    numbers::eight(s, at + 12) as usize
-}
-
-// The first of the `m` records behind record `i` that is no append, or `m`.
-fn first_other(s: &[u8], i: usize, m: usize) -> usize
+// Whether the `m` records behind record `i` are all appends.
+fn all_appends(s: &[u8], i: usize, m: usize) -> bool
     requires { start_of (i + 1 + m) ≤ length s.now }
-    ensures { result ≡ first_other s.now i m }
+    ensures { result ≡ list_all (λ j. slice_index s.now (start_of (i + 1 + j)) == 8) (range_with_len 0 m) }
 {
-    let mut j = 0;
-    while j < m {
-        if s[HEAD + RECORD * (i + 1 + j)] != APPEND {
-            return j;
-        }
-        j += 1;
-    }
-    j
+    (0..m).all(|j| s[HEAD + RECORD * (i + 1 + j)] == APPEND)
 }
 
 // Whether record `i` of `n` is none of the calls, or a batch whose records are not there.
@@ -148,32 +145,16 @@ fn is_bad(s: &[u8], i: usize, n: usize) -> bool
 {
     let at = HEAD + RECORD * i;
     let call = s[at];
-    if call < 1 {
+    if call < 1 || BATCH < call {
         return true;
     }
-    if BATCH < call {
-        return true;
-    }
-    let m = members(s, at);
-    if n - i - 1 < m {
-        return true;
-    }
-    first_other(s, i, m) != m
+    let m = fields_at(s, at).members() as usize;
+    n - i - 1 < m || !all_appends(s, i, m)
 }
 
-fn flawed(answer: u64, place: usize) -> Flaw
-    ensures { result ≡ flaw_rule answer place }
-{
-    Flaw {
-        answer,
-        place,
-        entries: 0,
-    }
-}
-
-// What is wrong with records that are all whole. Those inside a batch, which belong to it, are looked at with it, and get no entry.
-// Only a batch and what is no call can be bad, so any other record is passed at once.
-fn check_records(s: &[u8]) -> Flaw
+// What is wrong with records that are all whole, and how many entries they have where nothing is. Those inside a batch, which belong to
+// it, are looked at with it, and get no entry. Only a batch and what is no call can be bad, so any other record is passed at once.
+fn check_records(s: &[u8]) -> Result<usize, Flaw>
     requires { head_bytes ≤ length s.now }
     ensures { result ≡ flaw_in s.now }
 {
@@ -181,52 +162,59 @@ fn check_records(s: &[u8]) -> Flaw
     let end = HEAD + RECORD * n;
     let mut inside = 0;
     let mut at = HEAD;
+    // An index: a batch takes the records behind it along, which no iterator of std does.
     while at < end {
         let call = s[at];
         if call < 1 || BATCH <= call {
             let i = (at - HEAD) / RECORD;
             if is_bad(s, i, n) {
-                return flawed(BAD, i);
+                return Err(Flaw {
+                    fault: Fault::Bad,
+                    place: i,
+                });
             }
-            let m = members(s, at);
+            let m = fields_at(s, at).members() as usize;
             inside += m;
             at += RECORD * m;
         }
         at += RECORD;
     }
-    Flaw {
-        answer: 0,
-        place: n,
-        entries: n - inside,
-    }
+    Ok(n - inside)
 }
 
-// What is wrong with a schedule, but for the output's room.
-pub fn check(s: &[u8]) -> Flaw
+// What is wrong with a schedule, but for the output's room, or how many entries its transcript will have.
+pub fn check(s: &[u8]) -> Result<usize, Flaw>
     ensures { result ≡ flaw_of s.now }
 {
-    if !marked(s) {
-        return flawed(UNMARKED, 0);
+    if s.len() < HEAD || !s.starts_with(b"LRT") {
+        return Err(Flaw {
+            fault: Fault::Unmarked,
+            place: 0,
+        });
     }
-    if numbers::two(s, 3) != 1 {
-        return flawed(VERSION, 0);
+    if u16::from_le_bytes([s[3], s[4]]) != 1 {
+        return Err(Flaw {
+            fault: Fault::Version,
+            place: 0,
+        });
     }
     if (s.len() - HEAD) % RECORD != 0 {
-        return flawed(TORN, count(s));
+        return Err(Flaw {
+            fault: Fault::Torn,
+            place: count(s),
+        });
     }
     check_records(s)
 }
 
-// An entry at byte `at` of a transcript: an answer in one byte, and a value in eight. Nothing is written where it does not fit.
+// An entry at byte `at` of a transcript: an answer in one byte, and a value in eight. Nothing is written where it does not fit, and that is
+// no error: its callers have room, and it cannot fail.
 pub fn put(out: &mut [u8], at: usize, answer: u8, value: u64)
     ensures { out.new ≡ put_rule answer value at out.old }
 {
-    if out.len() < ENTRY {
-        return;
-    }
-    if out.len() - ENTRY < at {
+    if out.len() < at.saturating_add(ENTRY) {
         return;
     }
     out[at] = answer;
-    numbers::store(out, at + 1, value);
+    out[at + 1..at + ENTRY].copy_from_slice(&value.to_le_bytes());
 }

@@ -15,8 +15,11 @@ fn run(rt: &HostRuntime, schedule: &[u8], out: &mut [u8; TRANSCRIPT]) -> io::Res
         // No more is written than there is room, which the minimum shows.
         page::write(rt, schedule, &out[..played.written.min(TRANSCRIPT)])
     } else {
-        let flaw = format::check(schedule);
-        page::refuse(rt, played.answer, flaw.place)
+        let place = match format::check(schedule) {
+            Ok(_) => format::count(schedule),
+            Err(flaw) => flaw.place,
+        };
+        page::refuse(rt, played.answer, place)
     }
 }
 

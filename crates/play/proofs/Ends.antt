@@ -4,7 +4,7 @@ use mathlib.Core.Path.{◌≡◌, refl}
 use mathlib.Core.List.{List, [], ◌∷◌, ◌++◌, map}
 use lib.ListN.{replicate}
 use Rattle.read.specs.Machine.{slot_total}
-use Rattle.format.specs.Schedule.{bytes_of, flaw_of}
+use Rattle.format.specs.Schedule.{bytes_of, count, flaw_of, place_of}
 use Rattle.play.specs.Player.{refusal_of, output, play_rule}
 use Rattle.play.proofs.Computes.{rules}
 
@@ -104,7 +104,7 @@ refusals =
     ∷ []
 
 refusals_found :
-    map (λ (c : Refusal). refusal_of c.file c.room ∷ (flaw_of c.file).place ∷ []) refusals
+    map (λ (c : Refusal). refusal_of c.file c.room ∷ place_of (count c.file) (flaw_of c.file) ∷ []) refusals
     ≡ map (λ (c : Refusal). c.answer ∷ c.place ∷ []) refusals
 unfolding rules
 refusals_found = refl

@@ -1,5 +1,5 @@
 -- Step and run, step by step: what is known of a call that is under way, before each step and behind the last.
-use Prim.Native.Nat.{ℕ, suc, ◌+◌, ◌-◌, ◌<◌}
+use Prim.Native.Nat.{ℕ, suc, ◌+◌, ◌-◌, ◌≤◌, ◌<◌}
 use mathlib.Core.Path.{◌≡◌, refl, sym, ap, subst, ◌∙◌}
 use mathlib.Core.Bool.{Bool, true, false, not, beq, true≢false}
 use mathlib.Core.List.{List}
@@ -39,24 +39,15 @@ use Rattle.write.proofs.Left.{used_as, step_slot, step_value, step_lowers, many_
 use Rattle.write.proofs.NeverBroken.{Sound, sound_step}
 use Rattle.write.proofs.Rising.{step_rising}
 use Rattle.play.specs.declared.turns.Far.{Far}
+use Rattle.play.specs.declared.turns.Far.TheVariants as far
 use Rattle.play.specs.Player.{machine}
-use Rattle.play.specs.Turns.{meant, members_of, is_going, is_running, halt, halt_of, far, facing, went_on}
+use Rattle.play.specs.Turns.{meant, is_going, is_running, halt, halt_of, facing, went_on}
 use Rattle.play.proofs.Run.{run_from, run_starts, run_over, run_unrolls}
 use Rattle.play.proofs.Turned.{read_slot}
 use Rattle.read.proofs.Cases.{state_of}
 use Rattle.read.proofs.Phases.{idle_cases, underway_stays}
 use Rattle.write.proofs.Count.{left}
 use Rattle.write.proofs.Refusals.{lifted_same}
-
--- no records belong to it
-pub going_alone : (k : Act) → is_going k ≡ true → members_of k ≡ 0
-going_alone act.Create p = refl
-going_alone (act.On i h) p = refl
-going_alone (act.Append kind key amount) p = refl
-going_alone (act.Batch n) p = absurd (true≢false (sym p))
-going_alone (act.Open o) p = refl
-going_alone act.Step p = refl
-going_alone act.Run p = refl
 
 -- ---- what halts a step
 
@@ -181,23 +172,23 @@ idle_held p j held u = idle_cases (λ p. halt p j true ≡ halt p j held) refl r
 -- ---- a call on its way
 
 -- it is over, and said this
-pub record Said (o : Lent Reply) (f : Far) (c : Control) (ss : List Slot) (es l r g : List ℕ) : Type 0 where
-  pub answer : answer_of o ≡ f.answer
-  pub value : value_of o ≡ f.value
+pub record Said (o : Lent Reply) (a : Answer) (v : ℕ) (c : Control) (ss : List Slot) (es l r g : List ℕ) : Type 0 where
+  pub answer : answer_of o ≡ number a
+  pub value : value_of o ≡ v
   pub world : world_of o ≡ machine (state_of c ss es) l r g
 
 pub said :
-    {o : Lent Reply} {f : Far} {a : Answer} {v : ℕ} {c : Control} {ss : List Slot} {es l r g : List ℕ} →
-    o ≡ lent (record { answer = a; value = v; state = state_of c ss es }) l r g → number a ≡ f.answer → v ≡ f.value → Said o f c ss es l r g
-said e x y = record { answer = ap answer_of e ∙ x; value = ap value_of e ∙ y; world = ap world_of e }
+    {o : Lent Reply} {a : Answer} {v : ℕ} {c : Control} {ss : List Slot} {es l r g : List ℕ} →
+    o ≡ lent (record { answer = a; value = v; state = state_of c ss es }) l r g → Said o a v c ss es l r g
+said e = record { answer = ap answer_of e; value = ap value_of e; world = ap world_of e }
 
 -- the same of other names
 pub said_as :
-    {o : Lent Reply} {f h : Far} {c d : Control} {ss ts : List Slot} {es fs l r g l' r' g' : List ℕ} → Said o h d ts fs l' r' g' → l ≡ l' → r ≡ r' → g ≡ g' →
-    c ≡ d → ss ≡ ts → es ≡ fs → f ≡ h → Said o f c ss es l r g
-said_as q l r g c ss es f = record {
-  answer = q.answer ∙ ap (λ (f : Far). f.answer) (sym f);
-  value = q.value ∙ ap (λ (f : Far). f.value) (sym f);
+    {o : Lent Reply} {a b : Answer} {v w : ℕ} {c d : Control} {ss ts : List Slot} {es fs l r g l' r' g' : List ℕ} → Said o b w d ts fs l' r' g' →
+    l ≡ l' → r ≡ r' → g ≡ g' → c ≡ d → ss ≡ ts → es ≡ fs → a ≡ b → v ≡ w → Said o a v c ss es l r g
+said_as q l r g c ss es a v = record {
+  answer = q.answer ∙ ap number (sym a);
+  value = q.value ∙ sym v;
   world = q.world ∙ sym (λ i. machine (state_of (c i) (ss i) (es i)) (l i) (r i) (g i));
 }
 
@@ -207,10 +198,21 @@ pub record Goes (o : Lent Reply) (run : Bool) (n : ℕ) (c : Control) (ss : List
   pub busy : underway c.phase ≡ true
   pub few : n + left c < many_steps
 
+-- one or the other
+abbrev pub Stands : Lent Reply → Bool → Far → Control → List Slot → List ℕ → List ℕ → List ℕ → List ℕ → Type 0
+Stands o run (far.Goes n) c ss es l r g = Goes o run n c ss es l r g
+Stands o run (far.Over a v) c ss es l r g = Said o a v c ss es l r g
+
 pub record Going (o : Lent Reply) (run : Bool) (f : Far) (c : Control) (ss : List Slot) (es l r g : List ℕ) : Type 0 where
   pub sound : Sound (state_of c ss es) l r g
-  pub goes : f.goes ≡ true → Goes o run f.value c ss es l r g
-  pub ends : f.goes ≡ false → Said o f c ss es l r g
+  pub stands : Stands o run f c ss es l r g
+
+module _ {o : Lent Reply} {run : Bool} {f : Far} {c : Control} {ss : List Slot} {es l r g : List ℕ} (v : Going o run f c ss es l r g) where
+  pub going_goes : {n : ℕ} → f ≡ far.Goes n → Goes o run n c ss es l r g
+  going_goes e = subst (λ (f : Far). Stands o run f c ss es l r g) e v.stands
+
+  pub going_over : {a : Answer} {x : ℕ} → f ≡ far.Over a x → Said o a x c ss es l r g
+  going_over e = subst (λ (f : Far). Stands o run f c ss es l r g) e v.stands
 
 abbrev here_slot : Control → List Slot → Slot
 here_slot c ss = get_or ss (place c.phase) no_slot
@@ -250,14 +252,13 @@ module _ (n : ℕ) (c : Control) (ss : List Slot) (es l r g : List ℕ) (h : Sou
       {o : Lent Reply} (run : Bool) → (underway c.phase ≡ true → o ≡ due run n st l r g) →
       ((number halts ≡ 0 → ⊥) → o ≡ lent (record { answer = halts; value = n; state = st }) l r g) → n + left c < many_steps →
       Going o run (facing n halts) c ss es l r g
-  faces run x y z = record {
-    sound = h;
-    goes =
-        λ b.
-        let u = unhalted c.phase c.job (holds (here_slot c ss) (here_snap c es)) (eqb-true (number halts) 0 b) in
-        record { same = x u; busy = u; few = z };
-    ends = λ b. said (y (eqb-false (number halts) 0 b)) refl refl;
-  }
+  faces {o} run x y z = record { sound = h; stands = go (eqb (number halts) 0) refl }
+    where
+      go : (b : Bool) → eqb (number halts) 0 ≡ b → Stands o run (elim b [ true ↦ far.Goes n | false ↦ far.Over halts n ]) c ss es l r g
+      go true e =
+          let u = unhalted c.phase c.job (holds (here_slot c ss) (here_snap c es)) (eqb-true (number halts) 0 e) in
+          record { same = x u; busy = u; few = z }
+      go false e = said (y (eqb-false (number halts) 0 e))
 
 -- a step or a run begins
 pub going_starts :
@@ -287,6 +288,18 @@ going_begins os k p c ss es l r g h {i} e q x =
     (going_starts os k p c ss es l r g h)
 
 -- ---- a step of it
+
+-- how many steps a call may still make
+abbrev pub ahead : Far → Control → ℕ
+ahead (far.Goes n) c = suc (left c)
+ahead (far.Over a v) c = 0
+
+ahead_facing : (n : ℕ) (a : Answer) (c : Control) → ahead (facing n a) c ≤ suc (left c)
+ahead_facing n a c = go (eqb (number a) 0)
+  where
+    go : (b : Bool) → ahead (elim b [ true ↦ far.Goes n | false ↦ far.Over a n ]) c ≤ suc (left c)
+    go true = omega arith
+    go false = omega arith
 
 module _ {o : Lent Reply} {run : Bool} {n : ℕ} {c : Control} {ss : List Slot} {es l r g : List ℕ} (v : Goes o run n c ss es l r g)
     (h : Sound (state_of c ss es) l r g) {i : ℕ} (p : i ≡ place c.phase) {s : Slot} (q : s ≡ get_or ss i no_slot) {m : Moved} {l' r' g' : List ℕ}
@@ -368,15 +381,14 @@ module _ {o : Lent Reply} {run : Bool} {n : ℕ} {c : Control} {ss : List Slot} 
 
       -- it goes on only behind a step that was made
       abbrev Behind : Far → Type 0
-      Behind f = Going o run f m.control to.slots to.snapshots l' r' g' × (f.goes ≡ true → left m.control < left c)
+      Behind f = Going o run f m.control to.slots to.snapshots l' r' g' × (ahead f m.control < suc (left c))
 
-      over_behind : {f : Far} → f.goes ≡ false → Said o f m.control to.slots to.snapshots l' r' g' → Behind f
-      over_behind e d =
-          (record { sound = sound_after; goes = λ b. absurd (true≢false (sym b ∙ e)); ends = λ b. d }, λ b. absurd (true≢false (sym b ∙ e)))
+      over_behind : (a : Answer) (v : ℕ) → Said o a v m.control to.slots to.snapshots l' r' g' → Behind (far.Over a v)
+      over_behind a v d = (record { sound = sound_after; stands = d }, omega arith)
 
       ran_value :
           run ≡ true → number m.answer ≡ 0 → (b : Bool) → eqb m.value 0 ≡ b →
-          Behind (elim b [ true ↦ facing (n + 1) next | false ↦ far false answer.Done (n + 1) ])
+          Behind (elim b [ true ↦ facing (n + 1) next | false ↦ far.Over answer.Done (n + 1) ])
       ran_value y z true d =
           let u = goes_on (eqb-true m.value 0 d) in
           let e : o ≡ due run (n + 1) to l' r' g' = run_made y z ∙ ap (λ (b : Bool). due b (n + 1) to l' r' g') (sym y) in (
@@ -386,27 +398,27 @@ module _ {o : Lent Reply} {run : Bool} {n : ℕ} {c : Control} {ss : List Slot} 
                 ∙ due_halted (n + 1) m.control to.slots to.snapshots l' r' g' sound_after run
                 (λ b. absurd (true≢false (sym y ∙ b))) u w)
                 (omega (arith, lowers z, v.few)),
-            λ b. omega (arith, lowers z),
+            omega (arith, lowers z, ahead_facing (n + 1) next m.control),
           )
       ran_value y z false d =
-          over_behind refl
-          (said (run_made y z ∙ run_over to l' r' g' (n + 1) (ended (eqb-false m.value 0 d))) refl refl)
+          over_behind answer.Done (n + 1) (said (run_made y z ∙ run_over to l' r' g' (n + 1) (ended (eqb-false m.value 0 d))))
 
       ran : run ≡ true → (b : Bool) → eqb (number m.answer) 0 ≡ b →
           Behind
           (elim b [
-            | true ↦ elim (eqb m.value 0) [ true ↦ facing (n + 1) next | false ↦ far false answer.Done (n + 1) ]
-            | false ↦ far false m.answer n
+            | true ↦ elim (eqb m.value 0) [ true ↦ facing (n + 1) next | false ↦ far.Over answer.Done (n + 1) ]
+            | false ↦ far.Over m.answer n
           ])
       ran y true d = ran_value y (eqb-true (number m.answer) 0 d) (eqb m.value 0) refl
       ran y false d =
           let z = eqb-false (number m.answer) 0 d in
-          over_behind refl (said (run_stopped y (number m.answer - 1) (omega arith)) refl refl)
+          over_behind m.answer n (said (run_stopped y (number m.answer - 1) (omega arith)))
 
       went : (b : Bool) → run ≡ b → Behind (went_on b n m next)
       went true y = ran y (eqb (number m.answer) 0) refl
       went false y =
-          over_behind refl (said (v.same ∙ ap (λ (b : Bool). due b n (state_of c ss es) l r g) y ∙ stepped) refl refl)
+          over_behind m.answer m.value
+          (said (v.same ∙ ap (λ (b : Bool). due b n (state_of c ss es) l r g) y ∙ stepped))
 
       -- the next step looks at slot k
       pub going_steps :
@@ -418,14 +430,3 @@ module _ {o : Lent Reply} {run : Bool} {n : ℕ} {c : Control} {ss : List Slot} 
           (d ∙ ap (λ (t : Slot). went_on run n m (halt_of m.control t (get_or to.snapshots k 0))) b
           ∙ ap (λ (k : ℕ). went_on run n m (halt_of m.control (get_or to.slots k no_slot) (get_or to.snapshots k 0))) a))
           (went run refl)
-
--- how many steps a call may still make
-abbrev pub ahead : Far → Control → ℕ
-ahead f c = elim f.goes [ true ↦ suc (left c) | false ↦ 0 ]
-
-pub ahead_less : (f : Far) (c : Control) (h : Far) (d : Control) → f.goes ≡ true → (h.goes ≡ true → left d < left c) → ahead h d < ahead f c
-ahead_less f c h d e x =
-    let y : ahead f c ≡ suc (left c) = ap (λ (b : Bool). elim b [ true ↦ suc (left c) | false ↦ 0 ]) e in
-    split h.goes
-    (λ b. let z : ahead h d ≡ suc (left d) = ap (λ (b : Bool). elim b [ true ↦ suc (left d) | false ↦ 0 ]) b in omega (arith, x b))
-    (λ b. let z : ahead h d ≡ 0 = ap (λ (b : Bool). elim b [ true ↦ suc (left d) | false ↦ 0 ]) b in omega arith)

@@ -1,5 +1,4 @@
 -- The laws of the player.
-pub mod Calls
 pub mod Lengths
 pub mod Rule
 pub mod Counted

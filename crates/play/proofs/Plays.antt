@@ -21,14 +21,15 @@ use Rattle.write.specs.Machine.{call_on, call_rule}
 use Rattle.write.specs.World.{World, world_of, answer_of, value_of, Played, answering, played}
 use Rattle.write.proofs.Judged.{judged_good, judged_orderly}
 use Rattle.write.proofs.NeverBroken.{Sound, call_made, sound_call}
-use Rattle.play.specs.declared.turns.Far.{Far}
+use Rattle.table.specs.declared.Answer.{Answer}
+use Rattle.table.specs.Answers.{number}
 use Rattle.play.specs.declared.Reached.{Reached}
 use Rattle.format.specs.Schedule.{record_bytes, members_at, units_from}
 use Rattle.format.proofs.Units.{units_next}
 use Rattle.format.specs.Transcript.{entry_bytes, entry_of, entries_of}
 use Rattle.play.specs.Schedule.{decoded, calls_in}
 use Rattle.play.specs.Player.{transcript, machine}
-use Rattle.play.specs.Turns.{meant, named, is_going, turn_on, over}
+use Rattle.play.specs.Turns.{meant, named, is_going, turn_on}
 use Rattle.play.specs.declared.schedule.Act.{Act}
 use Rattle.play.proofs.Turned.{within, put_slot, turn_made}
 use Rattle.play.proofs.Going.{Said, said}
@@ -38,13 +39,12 @@ use Rattle.read.proofs.Cases.{state_of}
 pub turn_said :
     (os : List Op) (k : Act) → is_going k ≡ false → (c : Control) (ss : List Slot) (es l r g : List ℕ) {i : ℕ} → i ≡ named k c.free →
     {s : Slot} → s ≡ get_or ss (within i) no_slot → {m : Moved} {l' r' g' : List ℕ} → lent m l' r' g' ≡ turn_on (meant os k) i c s l r g →
-    Said (call_on (meant os k) (state_of c ss es) l r g) (over m) m.control (set ss (within i) m.slot) es l' r' g'
+    Said (call_on (meant os k) (state_of c ss es) l r g) m.answer m.value m.control (set ss (within i) m.slot) es l' r' g'
 turn_said os k p c ss es l r g {i} e q x =
     let st = state_of c ss es in
     said
     (turn_made st l r g os k p ∙ ap (λ (i : ℕ). put_slot (within i) st (turn_on (meant os k) i c (get_or ss (within i) no_slot) l r g)) (sym e)
     ∙ ap (λ (s : Slot). put_slot (within i) st (turn_on (meant os k) i c s l r g)) (sym q) ∙ ap (put_slot (within i) st) (sym x))
-    refl refl
 
 -- ---- before a turn
 
@@ -174,16 +174,17 @@ module _ {s out₀ whole : List ℕ} {end : World} {out : List ℕ} {from to : �
           omega (arith, p.count, p.room, p.sized, ap (λ (q : Played). length (entries_of q.replies)) opens)
 
       pub plays_next :
-          {f : Far} {d : Control} {ts : List Slot} {fs l' r' g' : List ℕ} → Said (call_on call (state_of c ss es) l r g) f d ts fs l' r' g' →
-          (out' : List ℕ) → out' ≡ take to out ++ (entry_of f.answer f.value ++ drop (to + entry_bytes) out) → {x : ℕ} → x ≡ next →
+          {a : Answer} {v : ℕ} {d : Control} {ts : List Slot} {fs l' r' g' : List ℕ} →
+          Said (call_on call (state_of c ss es) l r g) a v d ts fs l' r' g' → (out' : List ℕ) →
+          out' ≡ take to out ++ (entry_of (number a) v ++ drop (to + entry_bytes) out) → {x : ℕ} → x ≡ next →
           Plays s out₀ whole end out' x (to + entry_bytes) d ts fs l' r' g'
       unfolding entries_of
-      plays_next {f} {d} {ts} {fs} {l'} {r'} {g'} q out' w there =
-          let e : Said reply f d ts fs l' r' g' =
-          subst (λ (o : Lent Reply). Said o f d ts fs l' r' g') (sym (call_made call (state_of c ss es) l r g p.sound)) q in
+      plays_next {a} {v} {d} {ts} {fs} {l'} {r'} {g'} q out' w there =
+          let e : Said reply a v d ts fs l' r' g' =
+          subst (λ (o : Lent Reply). Said o a v d ts fs l' r' g') (sym (call_made call (state_of c ss es) l r g p.sound)) q in
           let after : World = machine (state_of d ts fs) l' r' g' in
-          let entry : List ℕ = entry_of f.answer f.value in
-          let opened : rest s from here ≡ answering f.answer f.value (rest s next after) =
+          let entry : List ℕ = entry_of (number a) v in
+          let opened : rest s from here ≡ answering (number a) v (rest s next after) =
           opens ∙ (λ j. answering (e.answer j) (e.value j) (played call_rule more (e.world j))) in
           let fit : to + entry_bytes ≤ length out = plays_room in
           let head : List ℕ = take to out ++ entry in

@@ -6,22 +6,23 @@ use mathlib.Core.List.{List, [], ◌∷◌, ◌++◌}
 use mathlib.Core.Logic.{⊎_elim}
 use native.Mathlib.Nat.{eq-or-lt_of_le}
 use native.Mathlib.Omega.{arith}
-use borrow.Author.Tests.{eq-eqb, eqb-true, eqb-false}
+use borrow.Author.Tests.{eqb-true, eqb-false}
 use lib.Dec.{eqb, leb}
 use lib.ListN.{length, get_or, take, drop, length-append, length-drop}
-use lib.Seq.{get_or-take, drop_at}
+use lib.Pointwise.{pointwise}
+use lib.Seq.{drop_at}
 use Rattle.table.proofs.Seek.{seek_before, seek_found}
 use Rattle.table.proofs.Split.{split, under}
 use Rattle.table.proofs.Booleans.{both}
 use Rattle.write.specs.World.{fresh_world}
-use Rattle.format.specs.declared.Flaw.{Flaw}
-use Rattle.format.specs.Schedule.{count, start_of, marked, version_of, members_at, entries_in, bad_at, first_bad, flaw, flaw_of}
+use Rattle.format.specs.declared.Fault.{Fault}
+use Rattle.format.specs.Schedule.{count, start_of, marked, version_of, members_at, entries_in, bad_at, first_bad, fault_number, flaw, flaw_of, number_of}
 use Rattle.play.specs.Schedule.{calls_of}
 use Rattle.play.specs.Player.{transcript, output, play_rule}
 use Rattle.play.specs.Refusals.{Applies, short, unmarked, version, torn, unknown, cut_short, mixed, crowded, amount_at, Outcome, Refusals}
 use Rattle.play.proofs.Counted.{entries_counted, entries_ruled}
 use Rattle.play.proofs.Lengths.{file_length}
-use Rattle.format.proofs.Records.{members_batch, members_none, Good, not_bad_good, bad_cases, marked_long, marked_third, flaw_unmarked, flaw_version, flaw_torn, flaw_whole, flaw_bad, flaw_none}
+use Rattle.format.proofs.Records.{members_batch, members_none, Good, not_bad_good, bad_cases, marked_long, marked_start, flaw_unmarked, flaw_version, flaw_torn, flaw_whole, flaw_bad, flaw_none}
 use Rattle.play.proofs.Rule.{play_flawed, play_short, play_made}
 
 -- ---- the tests, on the file's bytes
@@ -43,10 +44,7 @@ module _ (s : List ℕ) where
       first_three s (omega (arith, marked_long s m)) ∙ (λ i. a i ∷ b i ∷ c i ∷ [])
 
   bytes_marked : 5 ≤ length s → take 3 s ≡ 76 ∷ 82 ∷ 84 ∷ [] → marked s ≡ true
-  bytes_marked h e =
-      let at : (i : ℕ) → i < 3 → get_or s i 0 ≡ get_or (76 ∷ 82 ∷ 84 ∷ []) i 0 =
-      λ i l. sym (get_or-take 3 s i 0 l) ∙ ap (λ (w : List ℕ). get_or w i 0) e in
-      marked_third s h (at 0 (omega arith)) (at 1 (omega arith)) ∙ eq-eqb (get_or s 2 0) 84 (at 2 (omega arith))
+  bytes_marked h e = marked_start s h ∙ ap (pointwise eqb (76 ∷ 82 ∷ 84 ∷ [])) e
 
   -- records belong to a batch alone
   batch_alone : (i : ℕ) → 0 < members_at s (start_of i) → get_or s (start_of i) 0 ≡ 15
@@ -104,8 +102,10 @@ module _ (s out : List ℕ) where
       (λ z. absurd (n z), λ z. record { among = among f; applies = f; smallest = low; reported = refl; untouched = refl })
 
   -- the answer of the rule where the file's flaw is this one
-  flawed : {a i : ℕ} → flaw_of s ≡ flaw a i → (a ≡ 0 → ⊥) → output (record { answer = a; written = 0 }) out ≡ play_rule s out
-  flawed e = play_flawed s out (sym (ap (λ (f : Flaw). f.answer) e))
+  flawed :
+      {f : Fault} {i : ℕ} → flaw_of s ≡ flaw f i → (fault_number f ≡ 0 → ⊥) →
+      output (record { answer = fault_number f; written = 0 }) out ≡ play_rule s out
+  flawed e = play_flawed s out (sym (ap number_of e))
 
   from_21 : From 21
   from_21 b f = (among f).0
@@ -155,8 +155,8 @@ module _ (s out : List ℕ) where
           from_25 : From 25
           from_25 = up from_24 (not_24 (λ i l. not_bad_good s i (seek_before (bad_at s) (count s) i (omega arith))))
 
-          flawless : (flaw_of s).answer ≡ 0
-          flawless = ap (λ (f : Flaw). f.answer) (flaw_whole s m v t ∙ flaw_none s u)
+          flawless : number_of (flaw_of s) ≡ 0
+          flawless = ap number_of (flaw_whole s m v t ∙ flaw_none s u)
 
           too_short : length out < 9 * entries_in s → Outcome s out (play_rule s out)
           too_short h = refuses (crowded (entries_in s) (entries_counted s) h) from_25 (λ n. play_short s out flawless h)

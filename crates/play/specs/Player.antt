@@ -1,5 +1,5 @@
 -- The player: the transcript of a schedule's calls from a fresh machine.
-use Rattle.std.specs.Prelude.{ℕ, ◌*◌, ◌/◌, true, false, List, ◌++◌, length, drop, eqb, leb}
+use Rattle.std.specs.Prelude.{ℕ, ◌*◌, ◌/◌, true, false, List, ◌++◌, length, drop, eqb, leb, Result, Ok, Err}
 use Rattle.read.specs.declared.State.{State}
 use Rattle.read.specs.Calls.{Lent, lent}
 use Rattle.write.specs.Call.{Call}
@@ -7,7 +7,8 @@ use Rattle.write.specs.Machine.{call_rule}
 use Rattle.write.specs.World.{World, fresh_world, played}
 use Rattle.play.specs.declared.Reached.{Reached}
 use Rattle.play.specs.declared.Played.{Played}
-use Rattle.format.specs.Schedule.{record_bytes, entries_in, flaw_of}
+use Rattle.format.specs.declared.Fault.{Fault}
+use Rattle.format.specs.Schedule.{record_bytes, entries_in, fault_number, flaw_of, number_of}
 use Rattle.format.specs.Transcript.{entry_bytes, entries_of}
 use Rattle.play.specs.Schedule.{calls_in, calls_of}
 
@@ -35,8 +36,8 @@ reached s w =
 -- what is wrong with it, and 25 where the output, of m bytes, is too short
 abbrev pub refusal_of : List ℕ → ℕ → ℕ
 refusal_of s m =
-    elim (eqb (flaw_of s).answer 0)
-    [ true ↦ elim (leb (entry_bytes * entries_in s) m) [ true ↦ 0 | false ↦ 25 ] | false ↦ (flaw_of s).answer ]
+    elim (eqb (number_of (flaw_of s)) 0)
+    [ true ↦ elim (leb (entry_bytes * entries_in s) m) [ true ↦ 0 | false ↦ 25 ] | false ↦ number_of (flaw_of s) ]
 
 -- ---- the player
 
@@ -47,6 +48,11 @@ pub record Output : Type 0 where
 
 abbrev pub output : Played → List ℕ → Output
 output p b = record { result = p; bytes = b }
+
+-- what comes back of how many bytes were written, or of what refuses the file
+abbrev pub told : Result ℕ Fault → Played
+told (Ok n) = record { answer = 0; written = n }
+told (Err f) = record { answer = fault_number f; written = 0 }
 
 -- refused with nothing written, or the transcript over the output's first bytes
 unfoldable pub play_rule : List ℕ → List ℕ → Output

@@ -23,6 +23,7 @@ use Rattle.format.specs.Schedule.{record_bytes}
 use Rattle.play.specs.declared.schedule.Act.{Act}
 use Rattle.play.specs.declared.schedule.Act.TheVariants as act
 use Rattle.play.specs.declared.turns.Far.{Far}
+use Rattle.play.specs.declared.turns.Far.TheVariants.{Goes, Over}
 use Rattle.play.specs.Schedule.{ops_from}
 
 -- ---- what a record asks for
@@ -138,22 +139,19 @@ halt Gone j held = answer.Gone
 abbrev pub halt_of : Control → Slot → ℕ → Answer
 halt_of c s e = halt c.phase c.job (holds s e)
 
-abbrev pub far : Bool → Answer → ℕ → Far
-far goes a v = record { goes = goes; answer = number a; value = v }
-
 -- n steps are made, and the next is at hand
 abbrev pub facing : ℕ → Answer → Far
-facing n a = far (eqb (number a) 0) a n
+facing n a = elim (eqb (number a) 0) [ true ↦ Goes n | false ↦ Over a n ]
 
 abbrev pub over : Moved → Far
-over m = far false m.answer m.value
+over m = Over m.answer m.value
 
 -- a run behind a step, of which n were made before: next is what halts it there, if the call goes on
 abbrev pub ran_on : ℕ → Moved → Answer → Far
 ran_on n m next =
     elim (eqb (number m.answer) 0) [
-      | true ↦ elim (eqb m.value 0) [ true ↦ facing (n + 1) next | false ↦ far false answer.Done (n + 1) ]
-      | false ↦ far false m.answer n
+      | true ↦ elim (eqb m.value 0) [ true ↦ facing (n + 1) next | false ↦ Over answer.Done (n + 1) ]
+      | false ↦ Over m.answer n
     ]
 
 -- a step or a run behind a step

@@ -9,23 +9,21 @@ ghost use Rattle.read.specs.Machine.{judged};
 ghost use Rattle.table.specs.Order.{Tidy};
 ghost use Rattle.read.specs.Calls.{lent};
 ghost use Rattle.play.specs.Schedule.{calls_in};
-ghost use Rattle.play.specs.Player.{transcript as transcript_rule, machine, reached, output, play_rule};
+ghost use Rattle.play.specs.Player.{transcript as transcript_rule, machine, reached, told, output, play_rule};
 
-use format::{ENTRY, HEAD, RECORD};
+use format::{ENTRY, Fault, HEAD, RECORD};
 use read::{LOG_WORDS, SLOTS, State, guards};
 use table::{Search, WORDS};
+use turns::Far;
 use write::steps;
 
-// What came of a schedule: 0, or what refuses it, and how many bytes were written.
+// What came of a schedule: 0, or the number of what refuses it, and how many bytes were written. This is what C gets, so it is no Result.
 #[repr(C)]
 #[derive(Debug, Clone, Copy, PartialEq, Eq)]
 pub struct Played {
     pub answer: u64,
     pub written: usize,
 }
-
-// The output is too short.
-const CROWDED: u64 = 25;
 
 // Where the records of a part led: the machine's state, and how many bytes were read and written.
 #[derive(Debug, Clone, Copy, PartialEq, Eq)]
@@ -55,46 +53,52 @@ fn play_on(
     let end = RECORD * (s.len() / RECORD);
     let mut from = 0;
     let mut to = 0;
+    // An index: a batch takes the records behind it along, which no iterator of std does.
     while from < end {
         let call = schedule::decode(s, from);
-        let mut far = turns::none();
-        if turns::is_going(call) {
-            let p = c.phase;
-            let mut k = steps::place(p);
-            far = turns::facing(0, c, slots[k], snaps[k]);
-            while far.goes {
-                let m = steps::advance_by(Search::Halve, c, slots[k], snaps[k], left, right, log);
-                // A step leaves its slot as it is, or frees it.
-                let t = m.slot;
-                let own = slots[k];
-                if own.used != t.used {
-                    let gone = guards::freed(c.free, own);
-                    slots[k] = gone;
+        let (answer, value) = if call.is_going() {
+            let mut k = steps::place(c.phase);
+            let mut far = turns::facing(0, c, slots[k], snaps[k]);
+            loop {
+                match far {
+                    Far::Over(answer, value) => break (answer, value),
+                    Far::Goes(n) => {
+                        let m = steps::advance_by(
+                            Search::Halve,
+                            c,
+                            slots[k],
+                            snaps[k],
+                            left,
+                            right,
+                            log,
+                        );
+                        // A step leaves its slot as it is, or frees it.
+                        if slots[k].used != m.slot.used {
+                            slots[k] = guards::freed(c.free, slots[k]);
+                        }
+                        snaps[k] = m.snapshot;
+                        c = m.control;
+                        k = steps::place(c.phase);
+                        far = turns::went_on(call, n, m, c, slots[k], snaps[k]);
+                    }
                 }
-                snaps[k] = m.snapshot;
-                c = m.control;
-                let p = c.phase;
-                k = steps::place(p);
-                far = turns::went_on(call, far.value, m, c, slots[k], snaps[k]);
             }
-            from += RECORD;
         } else {
-            let i = turns::named(call, c.free);
+            let i = call.slot(c.free);
             // Any slot stands for one that is not there: it is left as it is.
             let k = i % SLOTS;
             let m = turns::turn(s, from, call, i, c, slots[k], left, right, log);
-            let own = m.slot;
-            slots[k] = own;
+            slots[k] = m.slot;
             c = m.control;
-            far = turns::over(m);
-            from = schedule::behind(s, from, call);
-        }
-        format::put(out, to, far.answer, far.value);
+            (m.answer, m.value)
+        };
+        format::put(out, to, u8::from(answer), value);
+        from = schedule::behind(s, from, call);
         to += ENTRY;
     }
     let after = State {
         control: c,
-        slots: slots,
+        slots,
         snapshots: snaps,
     };
     Reached {
@@ -104,30 +108,31 @@ fn play_on(
     }
 }
 
-// Plays a schedule. What refuses it is found before anything is written.
-pub fn lrt_play(schedule: &[u8], out: &mut [u8]) -> Played
-    ensures { output result out.new ≡ play_rule schedule.now out.old }
+// Plays a schedule on a fresh machine, and says how many bytes were written. What refuses it is found before anything is.
+fn transcribe(schedule: &[u8], out: &mut [u8]) -> Result<usize, Fault>
+    ensures { output (told result) out.new ≡ play_rule schedule.now out.old }
 {
-    let flaw = format::check(schedule);
-    if flaw.answer != 0 {
-        return Played {
-            answer: flaw.answer,
-            written: 0,
-        };
-    }
-    if out.len() < ENTRY * flaw.entries {
-        return Played {
-            answer: CROWDED,
-            written: 0,
-        };
+    let entries = format::check(schedule)?;
+    if out.len() < ENTRY * entries {
+        return Err(Fault::Crowded);
     }
     let mut left = [0u64; WORDS];
     let mut right = [0u64; WORDS];
     let mut log = [0u64; LOG_WORDS];
     let st = read::fresh_state();
     let r = play_on(st, &schedule[HEAD..], out, &mut left, &mut right, &mut log);
-    Played {
-        answer: 0,
-        written: r.written,
+    Ok(r.written)
+}
+
+// The same, with the number of what refuses a schedule, or 0.
+pub fn lrt_play(schedule: &[u8], out: &mut [u8]) -> Played
+    ensures { output result out.new ≡ play_rule schedule.now out.old }
+{
+    match transcribe(schedule, out) {
+        Ok(written) => Played { answer: 0, written },
+        Err(fault) => Played {
+            answer: u64::from(fault),
+            written: 0,
+        },
     }
 }

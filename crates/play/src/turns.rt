@@ -7,7 +7,7 @@ ghost use Rattle.write.specs.Begins.{append_on};
 ghost use Rattle.play.specs.Schedule.{ops_from};
 ghost use Rattle.read.specs.Calls.{lent};
 ghost use Rattle.write.specs.Steps.{holds};
-ghost use Rattle.play.specs.Turns.{meant_at, named as named_rule, is_going, is_running, moved_as, moved_by, touched, turn_on, halt as halt_rule, halt_of, far as far_rule, facing as facing_rule, over as over_rule, ran_on, went_on};
+ghost use Rattle.play.specs.Turns.{meant_at, is_running, moved_as, moved_by, touched, turn_on, halt as halt_rule, halt_of, facing as facing_rule, ran_on, went_on};
 
 use crate::schedule;
 use crate::schedule::Act;
@@ -18,27 +18,12 @@ use write::{BATCH_ROOM, Moved, begins, steps};
 
 // ---- a call that takes one turn
 
-// The slot that a call names, 0 where it names none; a create takes the one that is first, `free`.
-pub(crate) fn named(call: Act, free: usize) -> usize
-    ensures { result ≡ named_rule call free }
-{
-    match call {
-        Act::Create => free,
-        Act::On(i, _) => i,
-        Act::Append(_, _, _) => 0,
-        Act::Batch(_) => 0,
-        Act::Open(_) => 0,
-        Act::Step => 0,
-        Act::Run => 0,
-    }
-}
-
 fn moved_as(a: Answer, value: u64, c: Control, s: Slot) -> Moved
     ensures { result ≡ moved_as a value c s }
 {
     Moved {
         answer: a,
-        value: value,
+        value,
         control: c,
         slot: s,
         snapshot: 0,
@@ -49,11 +34,7 @@ fn moved_as(a: Answer, value: u64, c: Control, s: Slot) -> Moved
 fn moved_by(c: Control, m: Made) -> Moved
     ensures { result ≡ moved_by c m }
 {
-    let mut d = c;
-    d.free = m.free;
-    let answer = m.answer;
-    let slot = m.slot;
-    moved_as(answer, m.value, d, slot)
+    moved_as(m.answer, m.value, Control { free: m.free, ..c }, m.slot)
 }
 
 // A call on the handle in slot `i`.
@@ -87,7 +68,7 @@ fn batch(
     requires { (at ≤ length schedule.now) × Tidy left.old × Tidy right.old }
     ensures { lent result left.new right.new log.new ≡ append_on (ops_from schedule.now at n) c s 0 left.old right.old log.old }
 {
-    let k = schedule::fewer(n, CROWD);
+    let k = n.min(CROWD as u64) as usize;
     let mut ops = [0u64; 3 * CROWD];
     schedule::gather(schedule, at, k, &mut ops);
     begins::extend_by(Search::Halve, &ops[..3 * k], c, s, 0, left, right, log)
@@ -125,114 +106,40 @@ pub(crate) fn turn(
         ),
         Act::Batch(n) => batch(schedule, at + RECORD, n, c, s, left, right, log),
         Act::Open(o) => begins::open_on(o, c, s, 0),
-        Act::Step => moved_as(Answer::NotNow, 0, c, s),
-        Act::Run => moved_as(Answer::NotNow, 0, c, s),
+        Act::Step | Act::Run => moved_as(Answer::NotNow, 0, c, s),
     }
 }
 
 // ---- step and run, step by step
 
-// How far a call has come: whether it goes on, and its answer's number and value; while a run goes on, how many steps it made.
+// How far a call has come: it goes on, with so many steps made, or it is over, with this answer and value.
 #[derive(Debug, Clone, Copy, PartialEq, Eq)]
-pub(crate) struct Far {
-    pub goes: bool,
-    pub answer: u8,
-    pub value: u64,
-}
-
-// Step or run.
-pub(crate) fn is_going(call: Act) -> bool
-    ensures { result ≡ is_going call }
-{
-    match call {
-        Act::Create => false,
-        Act::On(_, _) => false,
-        Act::Append(_, _, _) => false,
-        Act::Batch(_) => false,
-        Act::Open(_) => false,
-        Act::Step => true,
-        Act::Run => true,
-    }
-}
-
-fn is_run(call: Act) -> bool
-    ensures { result ≡ is_running call }
-{
-    match call {
-        Act::Create => false,
-        Act::On(_, _) => false,
-        Act::Append(_, _, _) => false,
-        Act::Batch(_) => false,
-        Act::Open(_) => false,
-        Act::Step => false,
-        Act::Run => true,
-    }
+pub(crate) enum Far {
+    Goes(u64),
+    Over(Answer, u64),
 }
 
 // What a step answers that changes nothing, and Done for one that does.
 fn halt(c: Control, held: bool) -> Answer
     ensures { result ≡ halt_rule c.phase c.job held }
 {
-    let p = c.phase;
-    let j = c.job;
-    match p {
+    match c.phase {
         Phase::Idle => Answer::NotNow,
-        Phase::Begin => Answer::Done,
-        Phase::Poll(_) => {
-            if held {
-                match j {
-                    Job::Publish => Answer::Held,
-                    Job::Try => Answer::Done,
-                    Job::TakeFirst => Answer::Held,
-                    Job::TakeSecond => Answer::Held,
-                }
-            } else {
-                Answer::Done
-            }
-        }
-        Phase::Copy => Answer::Done,
-        Phase::Drain => Answer::Done,
-        Phase::Keep(_) => Answer::Done,
-        Phase::Swap => Answer::Done,
-        Phase::Snap(_) => Answer::Done,
-        Phase::Null => Answer::Done,
-        Phase::Lock => Answer::Done,
-        Phase::LastSnap(_) => Answer::Done,
-        Phase::LastPoll(_) => { if held { Answer::Held } else { Answer::Done } }
-        Phase::Finish => Answer::Done,
         Phase::Gone => Answer::Gone,
+        Phase::Poll(_) if held && c.job != Job::Try => Answer::Held,
+        Phase::LastPoll(_) if held => Answer::Held,
+        _ => Answer::Done,
     }
 }
 
-fn far_of(goes: bool, a: Answer, value: u64) -> Far
-    ensures { result ≡ far_rule goes a value }
-{
-    Far {
-        goes: goes,
-        answer: u8::from(a),
-        value: value,
-    }
-}
-
-// Nothing was said yet.
-pub(crate) fn none() -> Far {
-    far_of(false, Answer::Done, 0)
-}
-
-// The steps made are `n`, and the next is at hand.
+// `n` steps are made, and the next is at hand.
 pub(crate) fn facing(n: u64, c: Control, s: Slot, e: u64) -> Far
     ensures { result ≡ facing_rule n (halt_of c s e) }
 {
-    let a = halt(c, steps::holds(s, e));
-    far_of(u8::from(a) == 0, a, n)
-}
-
-// The call is over.
-pub(crate) fn over(m: Moved) -> Far
-    ensures { result ≡ over_rule m }
-{
-    let a = m.answer;
-    far_of(false, a, m.value)
+    match halt(c, steps::holds(s, e)) {
+        Answer::Done => Far::Goes(n),
+        answer => Far::Over(answer, n),
+    }
 }
 
 // A run behind a step, of which `n` were made before; the next one's slot and snapshot are `s` and `e`.
@@ -240,14 +147,11 @@ fn ran_on(n: u64, m: Moved, c: Control, s: Slot, e: u64) -> Far
     requires { n < 2 ^ 32 }
     ensures { result ≡ ran_on n m (halt_of c s e) }
 {
-    let a = m.answer;
-    if u8::from(a) != 0 {
-        return far_of(false, a, n);
+    match m.answer {
+        Answer::Done if m.value == 0 => facing(n + 1, c, s, e),
+        Answer::Done => Far::Over(Answer::Done, n + 1),
+        answer => Far::Over(answer, n),
     }
-    if m.value != 0 {
-        return far_of(false, Answer::Done, n + 1);
-    }
-    facing(n + 1, c, s, e)
 }
 
 // A step or a run behind a step, of which `n` were made before.
@@ -255,8 +159,8 @@ pub(crate) fn went_on(call: Act, n: u64, m: Moved, c: Control, s: Slot, e: u64) 
     requires { n < 2 ^ 32 }
     ensures { result ≡ went_on (is_running call) n m (halt_of c s e) }
 {
-    if is_run(call) {
-        return ran_on(n, m, c, s, e);
+    match call {
+        Act::Run => ran_on(n, m, c, s, e),
+        _ => Far::Over(m.answer, m.value),
     }
-    over(m)
 }

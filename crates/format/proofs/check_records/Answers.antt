@@ -5,9 +5,10 @@ use mathlib.Core.Bool.{false}
 use mathlib.Core.List.{List}
 use native.Mathlib.Omega.{arith}
 use lib.ListN.{get_or}
+use Rattle.std.specs.Prelude.{Ok}
 use Rattle.format.specs.Schedule.{record_bytes, count, start_of, members_at, bad_at}
-use Rattle.format.proofs.Records.{members_none, lone_good}
-use Rattle.format.proofs.Checks.{Checks, checks_start, checks_end, checks_bad, checks_next}
+use Rattle.format.proofs.Records.{members_read, members_none, lone_good}
+use Rattle.format.proofs.Checks.{Checks, checks_end, checks_bad, checks_next}
 use Rattle.format.proofs.check_records.Invariants.{place_of, Before}
 use Rattle.format.proofs.check_records.Goals as goal
 use Rattle.format.proofs.check_records.Goals.{After-members-m, Joined-call-lt1, then-call-lt1+else-is_bad, else-call-lt1+else-call-ge-BATCH}
@@ -29,7 +30,7 @@ batch : (c : After-members-m) →
     Before c.args.s.now (c.loop-at.inside + c.members-m.result) (c.loop-at.at + record_bytes * c.members-m.result + record_bytes)
 batch c =
     let v = c.loop-at.invariant in
-    passed _ v.3 (omega (arith, v.1, v.2, v.3.begins)) (sym c.is_bad.ensures ∙ c.if-is_bad.false) c.members-m.ensures refl refl
+    passed _ v.3 (omega (arith, v.1, v.2, v.3.begins)) (sym c.is_bad.ensures ∙ c.if-is_bad.false) (members_read _ _ c.members-m.ensures c.fields_at.ensures) refl refl
 
 -- past a record, whichever way was taken
 next : (c : Joined-call-lt1) →
@@ -41,7 +42,7 @@ next c =
     let l : place_of at < count s = omega (arith, v.1, v.2, v.3.begins) in
     elim c.if-call-lt1.branch [
       | then-call-lt1+else-is_bad w ↦
-          (omega (arith, w.at-is), passed s v.3 l (sym w.is_bad.ensures ∙ w.if-is_bad.false) w.members-m.ensures w.inside-is w.at-is)
+          (omega (arith, w.at-is), passed s v.3 l (sym w.is_bad.ensures ∙ w.if-is_bad.false) (members_read _ _ w.members-m.ensures w.fields_at.ensures) w.inside-is w.at-is)
       | else-call-lt1+else-call-ge-BATCH w ↦
           let h : get_or s at 0 < 15 = w.if-call-ge-BATCH.false in
           let low : 1 ≤ get_or s (start_of (place_of at)) 0 = subst (λ (k : ℕ). 1 ≤ get_or s k 0) v.3.begins w.if-call-lt1.false in
@@ -51,18 +52,10 @@ next c =
           (omega (arith, w.at-is), passed s v.3 l (lone_good s (place_of at) low high) none (omega (arith, w.inside-is)) to)
     ]
 
-pub loop-at-init : goal.loop-at-init
-loop-at-init c = (c.requires, c.count-n.ensures, refl, record { begins = refl; checks = checks_start _ })
-
-pub is_bad-requires : goal.is_bad-requires
-is_bad-requires c =
-    let v = c.loop-at.invariant in
-    (omega (arith, v.2, v.3.begins), v.1, omega (arith, v.0, v.1))
-
 pub returns-then-is_bad : goal.returns-then-is_bad
 returns-then-is_bad c =
     let v = c.loop-at.invariant in
-    c.flawed.ensures ∙ sym (checks_bad _ v.3.checks (omega (arith, v.1, v.2, v.3.begins)) (sym c.is_bad.ensures ∙ c.if-is_bad.true))
+    sym (checks_bad _ v.3.checks (omega (arith, v.1, v.2, v.3.begins)) (sym c.is_bad.ensures ∙ c.if-is_bad.true))
 
 pub overflow_add-inside : goal.overflow_add-inside
 overflow_add-inside c =
@@ -78,9 +71,6 @@ overflow_add-at c = omega (arith, (batch (goal.at.overflow_add-at c).After-membe
 pub overflow_add-at-in-loop-at : goal.overflow_add-at-in-loop-at
 overflow_add-at-in-loop-at c = omega (arith, (next (goal.at.overflow_add-at-in-loop-at c).Joined-call-lt1).1.checks.upto)
 
-pub loop-at-smaller : goal.loop-at-smaller
-loop-at-smaller c = omega (arith, (next (goal.at.loop-at-smaller c).Joined-call-lt1).0)
-
 pub loop-at-preserved : goal.loop-at-preserved
 loop-at-preserved c =
     let v = c.loop-at.invariant in
@@ -89,5 +79,5 @@ loop-at-preserved c =
 pub returns : goal.returns
 returns c =
     let v = c.loop-at.invariant in
-    ap (λ (n : ℕ). record { answer = 0; place = n; entries = n - c.loop-at.inside }) v.1
+    ap (λ (n : ℕ). Ok (n - c.loop-at.inside)) v.1
     ∙ sym (checks_end _ v.3.checks (omega (arith, v.1, v.2, v.3.begins)))

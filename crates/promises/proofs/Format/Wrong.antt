@@ -10,11 +10,13 @@ use Rattle.table.specs.Seek.{seek}
 use Rattle.table.proofs.Computes.{apart}
 use Rattle.promises.proofs.Contracts.{slice}
 use Rattle.format.specs.declared.Fields.{Fields}
+use Rattle.std.specs.Prelude.{Result, Ok, Err}
 use Rattle.format.specs.declared.Flaw.{Flaw}
-use Rattle.format.specs.Schedule.{number_at, bytes_of, record_bytes, count, start_of, marked, version_of, torn, fields_at, members_at, entries_in, other_at, first_other, bad_at, first_bad, flaw, flaw_in, flaw_of}
+use Rattle.format.specs.declared.Fault.TheVariants.{Unmarked, Version, Torn, Bad}
+use Rattle.format.specs.Schedule.{number_at, bytes_of, record_bytes, count, start_of, marked, version_of, torn, fields_at, members_in, members_at, fault_number, entries_in, other_at, first_other, bad_at, first_bad, flaw, flaw_in, flaw_of, number_of, place_of}
 use Rattle.format.specs.Transcript.{entry_bytes, entry_of}
 use Rattle.format.proofs.Computes.{rules}
-use Rattle.promises.proofs.Format.Promises.{CountPromise, FieldsPromise, CheckPromise, PutPromise}
+use Rattle.promises.proofs.Format.Promises.{CountPromise, FieldsPromise, MembersPromise, FaultNumberPromise, FaultPromise, CheckPromise, PutPromise}
 
 -- ---- what the witnesses are made of
 
@@ -81,66 +83,90 @@ whole_only s at = elim (leb (at + record_bytes) (length s)) [ true ↦ fields_at
 whole_only_wrong : FieldsPromise whole_only → ⊥
 whole_only_wrong h = apart (λ f. f.call) refl (h (slice (0 ∷ 3 ∷ []) refl) 1 refl)
 
+-- ---- members, and what a fault says
+
+-- a batch has one record less than it says
+abbrev one_less : Fields → ℕ
+one_less f = members_in f - 1
+
+one_less_wrong : MembersPromise one_less → ⊥
+one_less_wrong h =
+    apart itself refl (h (record { call = 15; slot = 0; guard = 0; kind = 0; key = 0; amount = 2 }) refl)
+
+-- faults are numbered from 20 on
+from20_wrong : FaultNumberPromise (λ f. fault_number f - 1) → ⊥
+from20_wrong h = apart itself refl (h Unmarked refl)
+
+-- whatever was found is a torn record
+always_torn_wrong : FaultPromise (λ f. Torn) → ⊥
+always_torn_wrong h = apart fault_number refl (h (record { fault = Bad; place = 0 }) refl)
+
 -- ---- check
 
+abbrev entries_or_none : Result ℕ Flaw → ℕ
+entries_or_none (Ok n) = n
+entries_or_none (Err f) = 0
+
 -- 24 is found before 23, or the record behind the bad one is named
-abbrev pub unknown_first : List ℕ → Flaw
+abbrev pub unknown_first : List ℕ → Result ℕ Flaw
 unknown_first s =
     let n = count s in
     let i = first_bad s n in
     elim (marked s) [
       | true ↦
           elim (eqb (version_of s) 1)
-          [ true ↦ elim (ltb i n) [ true ↦ flaw 24 i | false ↦ elim (torn s) [ true ↦ flaw 23 n | false ↦ flaw_in s ] ] | false ↦ flaw 22 0 ]
-      | false ↦ flaw 21 0
+          [ true ↦ elim (ltb i n) [ true ↦ flaw Bad i | false ↦ elim (torn s) [ true ↦ flaw Torn n | false ↦ flaw_in s ] ] | false ↦ flaw Version 0 ]
+      | false ↦ flaw Unmarked 0
     ]
 
 unknown_first_check_wrong : CheckPromise unknown_first → ⊥
 unfolding rules
-unknown_first_check_wrong h = apart (λ f. f.answer) refl (h (slice (unknown 1) refl) refl)
+unknown_first_check_wrong h = apart number_of refl (h (slice (unknown 1) refl) refl)
 
-abbrev names_next : List ℕ → Flaw
-names_next s = let f = flaw_of s in elim (eqb f.answer 24) [ true ↦ flaw 24 (suc f.place) | false ↦ f ]
+abbrev names_next : List ℕ → Result ℕ Flaw
+names_next s =
+    let f = flaw_of s in
+    elim (eqb (number_of f) 24) [ true ↦ flaw Bad (suc (place_of (count s) f)) | false ↦ f ]
 
 names_next_wrong : CheckPromise names_next → ⊥
 unfolding rules
-names_next_wrong h = apart (λ f. f.place) refl (h (slice (unknown 0) refl) refl)
+names_next_wrong h = apart (place_of 0) refl (h (slice (unknown 0) refl) refl)
 
 -- a bad batch is found at the first record behind it that does not belong there
-abbrev names_member : List ℕ → Flaw
+abbrev names_member : List ℕ → Result ℕ Flaw
 names_member s =
     let f = flaw_of s in
-    let i = f.place in
+    let i = place_of (count s) f in
     let m = members_at s (start_of i) in
-    elim (eqb f.answer 24 && ltb 0 m) [ true ↦ flaw 24 (i + 1 + first_other s i m) | false ↦ f ]
+    elim (eqb (number_of f) 24 && ltb 0 m) [ true ↦ flaw Bad (i + 1 + first_other s i m) | false ↦ f ]
 
 names_member_wrong : CheckPromise names_member → ⊥
 unfolding rules
-names_member_wrong h = apart (λ f. f.place) refl (h (slice (file (one 15 1 ++ one 1 0)) refl) refl)
+names_member_wrong h = apart (place_of 0) refl (h (slice (file (one 15 1 ++ one 1 0)) refl) refl)
 
 -- the records of a batch get entries too
-abbrev counts_members : List ℕ → Flaw
+abbrev counts_members : List ℕ → Result ℕ Flaw
 counts_members s =
     let f = flaw_of s in
-    elim (eqb f.answer 0) [ true ↦ record { answer = 0; place = f.place; entries = count s } | false ↦ f ]
+    elim (eqb (number_of f) 0) [ true ↦ Ok (count s) | false ↦ f ]
 
 counts_members_wrong : CheckPromise counts_members → ⊥
 unfolding rules
-counts_members_wrong h = apart (λ f. f.entries) refl (h (slice (file (one 15 1 ++ appends 1)) refl) refl)
+counts_members_wrong h = apart entries_or_none refl (h (slice (file (one 15 1 ++ appends 1)) refl) refl)
 
 -- the records are judged by another test
-abbrev judging : (List ℕ → ℕ → Bool) → List ℕ → Flaw
+abbrev judging : (List ℕ → ℕ → Bool) → List ℕ → Result ℕ Flaw
 judging bad s =
     let n = count s in
     let i = seek (bad s) 0 n in
     let f = flaw_of s in
-    elim (ltb 0 f.answer && ltb f.answer 24) [
+    elim (ltb 0 (number_of f) && ltb (number_of f) 24) [
       | true ↦ f
-      | false ↦ elim (ltb i n) [ true ↦ flaw 24 i | false ↦ record { answer = 0; place = n; entries = entries_in s } ]
+      | false ↦ elim (ltb i n) [ true ↦ flaw Bad i | false ↦ Ok (entries_in s) ]
     ]
 
 -- a batch may stand inside a batch
-abbrev pub nested : List ℕ → Flaw
+abbrev pub nested : List ℕ → Result ℕ Flaw
 nested =
     judging
     (λ s i.
@@ -151,23 +177,23 @@ nested =
 
 nested_wrong : CheckPromise nested → ⊥
 unfolding rules
-nested_wrong h = apart (λ f. f.answer) refl (h (slice (file (one 15 1 ++ one 15 0)) refl) refl)
+nested_wrong h = apart number_of refl (h (slice (file (one 15 1 ++ one 15 0)) refl) refl)
 
 -- a batch may say more records than there are
-abbrev pub cut_short : List ℕ → Flaw
+abbrev pub cut_short : List ℕ → Result ℕ Flaw
 cut_short = judging (λ s i. bad_at s i && leb (members_at s (start_of i)) (count s - i - 1))
 
 cut_short_wrong : CheckPromise cut_short → ⊥
 unfolding rules
-cut_short_wrong h = apart (λ f. f.answer) refl (h (slice (file (one 15 2 ++ appends 1)) refl) refl)
+cut_short_wrong h = apart number_of refl (h (slice (file (one 15 2 ++ appends 1)) refl) refl)
 
 -- a batch of more than 64, which is for the machine to refuse, refuses the file
-abbrev too_many : List ℕ → Flaw
+abbrev too_many : List ℕ → Result ℕ Flaw
 too_many = judging (λ s i. bad_at s i || ltb 64 (members_at s (start_of i)))
 
 too_many_wrong : CheckPromise too_many → ⊥
 unfolding rules
-too_many_wrong h = apart (λ f. f.answer) refl (h (slice (file (one 15 65 ++ appends 65)) refl) refl)
+too_many_wrong h = apart number_of refl (h (slice (file (one 15 65 ++ appends 65)) refl) refl)
 
 -- ---- put
 

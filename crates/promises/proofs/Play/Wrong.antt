@@ -22,8 +22,9 @@ use Rattle.write.specs.Call.{Call, Append, Step}
 use Rattle.write.specs.Numbers.{is, is_run, ops_of}
 use Rattle.write.specs.Machine.{call_on, call_rule}
 use Rattle.write.specs.World.{Machine, World, fresh_world, reply, world_of, answer_of, value_of, played}
+use Rattle.std.specs.Prelude.{Result}
 use Rattle.format.specs.declared.Flaw.{Flaw}
-use Rattle.format.specs.Schedule.{number_at, bytes_of, head_bytes, record_bytes, count, start_of, fields_at, members_at, units_from, entries_in, flaw_of}
+use Rattle.format.specs.Schedule.{number_at, bytes_of, head_bytes, record_bytes, count, start_of, fields_at, members_at, units_from, entries_in, flaw_of, number_of, place_of}
 use Rattle.format.specs.Transcript.{entry_bytes, entry_of, entries_of}
 use Rattle.promises.proofs.Format.Wrong.{unknown_first, nested, cut_short}
 use Rattle.play.specs.Schedule.{call_of, ops_from, decoded}
@@ -95,10 +96,10 @@ turns turn s [] w = []
 turns turn s (at ∷ ats) w = let t = turn s at w in t.bytes ++ turns turn s ats t.world
 
 -- what is wrong with a file, how many bytes its transcript has, and the turns
-module _ (flawed : List ℕ → Flaw) (needs : List ℕ → ℕ) (turn : Turn) where
+module _ (flawed : List ℕ → Result ℕ Flaw) (needs : List ℕ → ℕ) (turn : Turn) where
   abbrev refusal_by : List ℕ → ℕ → ℕ
   refusal_by s m =
-      elim (eqb (flawed s).answer 0) [ true ↦ elim (leb (needs s) m) [ true ↦ 0 | false ↦ 25 ] | false ↦ (flawed s).answer ]
+      elim (eqb (number_of (flawed s)) 0) [ true ↦ elim (leb (needs s) m) [ true ↦ 0 | false ↦ 25 ] | false ↦ number_of (flawed s) ]
 
   abbrev play_by : Player
   play_by s out =
@@ -258,7 +259,7 @@ abbrev late : Player
 late s out =
     let o = play_rule s out in
     elim (eqb (answered o) 24)
-    [ true ↦ output o.result (play_rule (take (start_of (flaw_of s).place) s) out).bytes | false ↦ o ]
+    [ true ↦ output o.result (play_rule (take (start_of (place_of (count s) (flaw_of s))) s) out).bytes | false ↦ o ]
 
 late_wrong : PlayPromise late → ⊥
 unfolding rules

@@ -12,5 +12,5 @@ returns c =
     let a = c.args in
     let f = c.fields_at.ensures in
     let s = a.s.now in
-    let n : members_of c.act_of.result ≡ members_at s a.at = c.act_of.ensures.0 ∙ ap members_in f in
-    (n, c.act_of.ensures.1 _ ∙ (λ j. call_of (ops_from s (a.at + record_bytes) (n j)) (f j)))
+    let n : members_of c.from.result ≡ members_at s a.at = c.from.ensures.0 ∙ ap members_in f in
+    (n, c.from.ensures.1 _ ∙ (λ j. call_of (ops_from s (a.at + record_bytes) (n j)) (f j)))

@@ -1,16 +1,11 @@
 -- What the call on the handle gives, where there is such a slot.
 use mathlib.Core.Path.{sym, ap, ◌∙◌}
-use borrow.Author.Tests.{le-leb, lt-leb}
+use borrow.Author.Tests.{lt-leb}
 use Rattle.table.specs.declared.Search.TheVariants.{Halve}
 use Rattle.read.specs.Machine.{slot_total}
 use Rattle.read.proofs.Rising.{handle_rising}
 use Rattle.play.specs.Turns.{moved_by, touched}
 use Rattle.play.proofs.turns.touch.Goals as goal
-
-pub returns-then-i-ge-SLOTS : goal.returns-then-i-ge-SLOTS
-returns-then-i-ge-SLOTS c =
-    let a = c.args in
-    c.moved_as.ensures ∙ sym (rw (le-leb slot_total a.i c.if-i-ge-SLOTS.true, touched))
 
 pub returns : goal.returns
 returns c =

@@ -1,10 +1,10 @@
 -- Each result is the rule's at the call that the match found.
 use mathlib.Core.Path.{sym, ap, ◌∙◌}
+use mathlib.Core.Logic.{inl, inr}
 use Rattle.read.specs.Calls.{lent}
 use Rattle.write.specs.declared.Moved.{Moved}
 use Rattle.play.specs.declared.schedule.Act.{Act}
 use Rattle.play.specs.Turns.{meant_at, moved_by, turn_on}
-use native.Mathlib.Omega.{arith}
 use Rattle.table.specs.declared.Search.TheVariants.{Halve}
 use Rattle.write.proofs.Rising.{append_rising}
 use Rattle.play.proofs.turns.turn.Goals as goal
@@ -50,23 +50,6 @@ pub returns-in-Step : goal.returns-in-Step
 unfolding turn_on
 returns-in-Step c =
     let a = c.args in
+    let turned = λ (k : Act). turn_on (meant_at a.schedule.now a.at k) a.i a.c a.s a.left.now a.right.now a.log.now in
     ap (λ (x : Moved). lent x a.left.now a.right.now a.log.now) c.moved_as.ensures
-    ∙ sym (ap (λ (k : Act). turn_on (meant_at a.schedule.now a.at k) a.i a.c a.s a.left.now a.right.now a.log.now) c.in-Step.is)
-
-pub returns-in-Run : goal.returns-in-Run
-unfolding turn_on
-returns-in-Run c =
-    let a = c.args in
-    ap (λ (x : Moved). lent x a.left.now a.right.now a.log.now) c.moved_as-in-Run.ensures
-    ∙ sym (ap (λ (k : Act). turn_on (meant_at a.schedule.now a.at k) a.i a.c a.s a.left.now a.right.now a.log.now) c.in-Run.is)
-
--- the copies are as they were
-pub touch-requires : goal.touch-requires
-touch-requires c =
-    let p = c.requires in
-    (p.1, p.2)
-
-pub batch-requires : goal.batch-requires
-batch-requires c =
-    let p = c.requires in
-    (omega arith, p.1, p.2)
+    ∙ sym (elim c.in-Step.is [ inl step ↦ ap turned step | inr run ↦ ap turned run ])
