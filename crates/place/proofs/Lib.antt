@@ -1,4 +1,2 @@
-pub mod Cases
 pub mod Inner
 pub mod Laws
-pub mod Values

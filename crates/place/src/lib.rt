@@ -7,7 +7,7 @@ ghost use Rattle.place.specs.Release.{release_rule};
 use read::{Slot, guards};
 use table::Answer;
 
-// What a release answers, and the record after it.
+// What a release answers, and the record after it: no Result, since a refusal too says what the record is.
 #[derive(Debug, Clone, Copy, PartialEq, Eq)]
 pub struct Released {
     pub answer: Answer,
@@ -16,6 +16,7 @@ pub struct Released {
 
 // The release by value: the guard closes, and the last one adds one to the epoch; a free record, and a guard that is not open, are
 // refused, and nothing changes.
+#[tactic(auto, unfolding(crate::specs::Release::release_rule, read::specs::Handles::smallest))]
 fn by_value(s: Slot, guard: usize) -> Released
     ensures { result ≡ release_rule guard s }
 {
@@ -25,17 +26,15 @@ fn by_value(s: Slot, guard: usize) -> Released
             slot: s,
         };
     }
-    let g = s.guards;
-    if guards::is_open(g, guard) {
-        let t = guards::released(guard, s);
+    if !guards::is_open(s.guards, guard) {
         return Released {
-            answer: Answer::Done,
-            slot: t,
+            answer: Answer::NoGuard,
+            slot: s,
         };
     }
     Released {
-        answer: Answer::NoGuard,
-        slot: s,
+        answer: Answer::Done,
+        slot: guards::released(guard, s),
     }
 }
 
@@ -52,6 +51,6 @@ pub fn release(s: &mut Slot, guard: usize) -> Answer
 pub fn leave(mut s: Slot, guard: usize) -> Released
     ensures { result ≡ release_rule guard s }
 {
-    let a = release(&mut s, guard);
-    Released { answer: a, slot: s }
+    let answer = release(&mut s, guard);
+    Released { answer, slot: s }
 }

@@ -1,5 +1,4 @@
 -- The laws of the count table.
-pub mod Needs
 pub mod Map
 pub mod Contract
 pub mod Booleans

@@ -1,5 +1,5 @@
 -- Laws of many look ups at once: a view and the copy that it was taken from have the same pairs, and so the same is found in both.
-use Prim.Native.Nat.{ℕ, ◌+◌, ◌-◌, ◌*◌, ◌/◌, ◌%◌, ◌≤◌, ◌<◌}
+use Prim.Native.Nat.{ℕ, ◌+◌, ◌-◌, ◌*◌, ◌≤◌, ◌<◌}
 use mathlib.Core.Path.{◌≡◌, refl, sym, ap, ◌∙◌}
 use mathlib.Core.Bool.{true, false}
 use mathlib.Core.List.{List, [], ◌∷◌, ◌++◌, append_assoc, append-nil}
@@ -10,55 +10,26 @@ use lib.ListN.{length, get_or, take, drop, set, replicate, length-append, length
 use lib.Seq.{length-take-le, take_all, take_at, drop-cons, get_or-take, get_or-append-add}
 use borrow.Rule.Slice.PartMut.{put_mid, same_len_mid}
 use lib.Dec.{eqb}
-use borrow.Author.Tests.{eqb-true, eqb-false, eq-eqb, ne_eqb, le-leb, lt-leb}
+use borrow.Author.Tests.{eqb-true, eq-eqb, le-leb, lt-leb}
 use Rattle.table.specs.declared.Answer.TheVariants.{Done, Length, Broken}
 use Rattle.table.specs.declared.Search.{Search}
 use Rattle.table.specs.declared.Search.TheVariants.{Walk, Halve}
 use Rattle.table.specs.Copy.{pairs, words, entries, key_at, count_at, used_of, pair_of, present, has_key, find_by, pair_by, fits, Fit, Holds, look_rule, used_rule}
+use Rattle.table.specs.Find.{Found, Missing}
 use Rattle.table.specs.Order.{Rising}
 use Rattle.table.specs.Many.{is_view, filled, told, told_all, Ready, look_all_rule}
 use Rattle.table.proofs.Map.{found}
-use Rattle.table.proofs.Split.{split, under}
+use Rattle.table.proofs.Split.{under}
 use Rattle.table.proofs.CopyWords.{get_d_zeros}
 use Rattle.table.proofs.CopyFind.{Pair, pair_present, absent_not_present, found_pair, found_absent, present_cases}
 use Rattle.table.proofs.CopyLook.{look_present, look_absent}
 use Rattle.table.proofs.Found.{pair_rising, pair_there, there, not_there}
 use Rattle.table.proofs.Cases.{used_unfit}
 
--- ---- tests
-
-same_test : (a b c d : ℕ) → (a ≡ b → c ≡ d) → (c ≡ d → a ≡ b) → eqb a b ≡ eqb c d
-same_test a b c d f g =
-    split (eqb c d)
-    (λ e. eq-eqb a b (g (eqb-true c d e)) ∙ sym e)
-    (λ e. ne_eqb a b (λ h. eqb-false c d e (f h)) ∙ sym e)
-
-pub twice_odd : (n m : ℕ) → n % 2 ≡ 1 → false ≡ eqb n (2 * m)
-twice_odd n m o = sym (ne_eqb n (2 * m) (λ h. omega arith))
-
-pub twice_even : (n m : ℕ) → (n % 2 ≡ 1 → ⊥) → eqb (n / 2) m ≡ eqb n (2 * m)
-twice_even n m o = same_test (n / 2) m n (2 * m) (λ h. omega arith) (λ h. omega arith)
-
-pub view_short : (v : List ℕ) → length v < 2 → false ≡ is_view v
-view_short v l = sym (ne_eqb (length v) (2 * entries v + 2) (λ h. omega arith))
-
-pub view_pairs : (v : List ℕ) → 2 ≤ length v → eqb (length v - 2) (2 * entries v) ≡ is_view v
-view_pairs v l = same_test (length v - 2) (2 * entries v) (length v) (2 * entries v + 2) (λ h. omega arith) (λ h. omega arith)
-
 -- ---- the order of the first pairs
 
 abbrev pub RisingTo : ℕ → List ℕ → Type 0
 RisingTo n w = (i j : ℕ) → i < j → j < n → key_at w i < key_at w j
-
--- one pair more, whose key is above the last one's
-pub rising_next : (n : ℕ) (w : List ℕ) → key_at w n < get_or w (2 * n + 4) 0 → RisingTo (n + 1) w → RisingTo (n + 1 + 1) w
-rising_next n w h r i j l b =
-    let e : 2 * n + 4 ≡ 2 * (n + 1) + 2 = omega arith in
-    let g : key_at w n < key_at w (n + 1) = omega (arith, ap (λ (x : ℕ). get_or w x 0) e) in
-    under j (n + 1) (λ a. r i j l a)
-    (λ a.
-    let q : j ≡ n + 1 = omega arith in
-    rw q (under i n (λ d. omega (arith, r i n d (omega arith))) (λ d. let t : i ≡ n = omega arith in rw t g)))
 
 -- ---- copies with the same pairs
 
@@ -115,28 +86,26 @@ pair_ready : (how : Search) (key : ℕ) (v : List ℕ) → (how ≡ Halve → Ri
 pair_ready Walk key v r = refl
 pair_ready Halve key v r = pair_rising key v (r refl) Halve
 
--- the search ended at i
-module _ (how : Search) (key : ℕ) (v : List ℕ) (r : Ready how v) (i : ℕ) (e : i ≡ find_by how key v) where
-  pair_way : pair_by how key v ≡ pair_of key v
-  pair_way = pair_ready how key v r.rising
+found_filled : (key : ℕ) (v : List ℕ) → found key (filled v) ≡ found key v
+found_filled key v = found_alike (filled v) v (filled_alike v) key
 
-  found_filled : found key (filled v) ≡ found key v
-  found_filled = found_alike (filled v) v (filled_alike v) key
-
-  pub told_there : has_key key v i ≡ true → told (look_rule key (filled v)) ≡ 1 ∷ count_at v i ∷ []
-  told_there t =
-      let h : has_key key v (find_by how key v) ≡ true = rw e at t in
-      let p : present key v ≡ true = rw pair_way at (there key v how h) in
-      let q : pair_of key v ≡ i = sym pair_way ∙ pair_there key v how h ∙ sym e in
+module _ {how : Search} {key : ℕ} {v : List ℕ} {i : ℕ} (r : Ready how v) where
+  pub told_there : Found how key v i → told (look_rule key (filled v)) ≡ 1 ∷ count_at v i ∷ []
+  told_there f =
+      let way : pair_by how key v ≡ pair_of key v = pair_ready how key v r.rising in
+      let h : has_key key v (find_by how key v) ≡ true = rw f.at at f.has in
+      let p : present key v ≡ true = rw way at (there key v how h) in
+      let q : pair_of key v ≡ i = sym way ∙ pair_there key v how h ∙ sym f.at in
       ap told
       (look_present key (count_at v i) (filled v) (filled_fit v r.upto r.holds.within)
-      (found_filled ∙ found_pair key v (pair_of key v) (pair_present key v p) ∙ ap (λ (x : ℕ). some (count_at v x)) q))
+      (found_filled key v ∙ found_pair key v (pair_of key v) (pair_present key v p) ∙ ap (λ (x : ℕ). some (count_at v x)) q))
 
-  pub told_absent : has_key key v i ≡ false → told (look_rule key (filled v)) ≡ 0 ∷ 0 ∷ []
-  told_absent t =
-      let h : has_key key v (find_by how key v) ≡ false = rw e at t in
-      let p : present key v ≡ false = rw pair_way at (not_there key v how h) in
-      ap told (look_absent key (filled v) (found_filled ∙ found_absent key v (absent_not_present key v p)))
+  pub told_absent : Missing how key v i → told (look_rule key (filled v)) ≡ 0 ∷ 0 ∷ []
+  told_absent m =
+      let way : pair_by how key v ≡ pair_of key v = pair_ready how key v r.rising in
+      let h : has_key key v (find_by how key v) ≡ false = rw m.at at m.none in
+      let p : present key v ≡ false = rw way at (not_there key v how h) in
+      ap told (look_absent key (filled v) (found_filled key v ∙ found_absent key v (absent_not_present key v p)))
 
 -- ---- the output
 
@@ -206,9 +175,6 @@ module _ (v : List ℕ) (h : is_view v ≡ true) where
 
   pub view_holds : entries v ≤ pairs → Holds v
   view_holds b = record { room = omega (arith, view_length); within = b }
-
-  pub view_ready : (how : Search) → entries v ≤ pairs → (how ≡ Halve → Rising v) → Ready how v
-  view_ready how b r = record { holds = view_holds b; upto = omega (arith, view_length); rising = r }
 
 -- ---- the view of a copy
 

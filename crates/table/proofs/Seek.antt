@@ -79,10 +79,6 @@ module _ (p : ℕ → Bool) where
       let e : n - i ≡ suc (n - (i + 1)) = omega arith in
       ap (seek p i) e ∙ seek_suc_next p i (n - (i + 1)) h ∙ ap (λ (k : ℕ). seek p k (n - (i + 1))) (sym (add-one i))
 
-  -- one more, behind k that it has passed
-  pub seek_more : (i k n : ℕ) → i + k < n → p (i + k) ≡ false → {x : ℕ} → x ≡ seek p (i + k) (n - (i + k)) → x ≡ seek p (i + suc k) (n - (i + suc k))
-  seek_more i k n l h e = let q : i + k + 1 ≡ i + suc k = omega arith in e ∙ seek_next (i + k) n l h ∙ ap (λ (j : ℕ). seek p j (n - j)) q
-
   pub seek_end : (i n : ℕ) → n ≤ i → seek p i (n - i) ≡ i
   seek_end i n l =
       let e : n - i ≡ 0 = omega arith in

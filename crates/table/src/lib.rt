@@ -1,10 +1,12 @@
 // The count table on one copy: a lent slice of words.
 #![tactic(auto)]
 
-ghost use Rattle.std.specs.Prelude.{◌≡◌, true, false, ◌++◌, ◌+◌, ◌*◌, ◌≤◌, ◌<◌, length, take, drop, eqb};
-ghost use Rattle.table.specs.Answers.{number as number_rule};
+ghost use Rattle.std.specs.Prelude.{◌≡◌, true, false, ◌+◌, ◌*◌, ◌≤◌, ◌<◌, length, take, drop, eqb, MatchResult};
+ghost use Rattle.table.specs.Answers.{number as number_rule, outcome, answer_of};
+ghost use Rattle.table.specs.Operation.{operation_of, made_by};
 ghost use Rattle.table.specs.declared.Search.TheVariants.{Halve};
-ghost use Rattle.table.specs.Copy.{entries, pairs, words, key_at, passes as passes_rule, first as first_rule, first_from, halved as halved_rule, find_by, has_key, place_by, grown as grown_rule, opened, close_rule, zeros, added_by, dropped_by, applied_by, lawful as lawful_rule, fitness, fits as fits_rule, Fit, Holds, apply_by, apply_rule, look_by, look_rule, used_rule};
+ghost use Rattle.table.specs.Copy.{entries, pairs, words, key_at, passes as passes_rule, first as first_rule, first_from, halved as halved_rule, find_by, place_by, opened, close_rule, zeros, added_by, dropped_by, lawful as lawful_rule, fitness, fits, used_of, Fit, Holds, apply_by, apply_rule, look_by, look_rule, used_rule};
+ghost use Rattle.table.specs.Find.{Found, Missing};
 ghost use Rattle.table.specs.Order.{Rising};
 ghost use Rattle.table.specs.Many.{is_view, filled, told, told_all, Ready, look_all_rule};
 
@@ -15,8 +17,6 @@ pub const PAIRS: usize = 512;
 pub const WORDS: usize = 2 + 2 * PAIRS;
 
 const MOST: u64 = PAIRS as u64;
-
-const TOP: u64 = 18446744073709551615;
 
 // How many pairs a walk passes in a turn.
 const TURN: usize = 4;
@@ -48,6 +48,14 @@ pub enum Search {
     Halve,
 }
 
+// What an operation does, with what it takes.
+#[derive(Debug, Clone, Copy, PartialEq, Eq)]
+enum Operation {
+    Add { key: u64, amount: u64 },
+    Drop { key: u64 },
+    Clear,
+}
+
 // An answer's number.
 impl From<Answer> for u8 {
     ghost from_gives = { λ a n. n ≡ number_rule a };
@@ -58,212 +66,243 @@ impl From<Answer> for u8 {
 }
 
 // Whether a copy has its length and no more entries than pairs.
-pub fn fit(w: &[u64]) -> Answer
-    ensures { result ≡ fitness w.now }
+#[tactic(auto, unfolding(crate::specs::Copy::fitness))]
+pub fn fit(w: &[u64]) -> Result<(), Answer>
+    ensures { result ≡ outcome (fitness w.now) }
 {
     if w.len() != WORDS {
-        return Answer::Length;
+        return Err(Answer::Length);
     }
     if MOST < w[0] {
-        return Answer::Broken;
+        return Err(Answer::Broken);
     }
-    Answer::Done
+    Ok(())
+}
+
+impl Operation {
+    // By its kind, which asks for the key and the amount that it has.
+    #[tactic(auto, unfolding(crate::specs::Operation::operation_of, crate::specs::Copy::lawful))]
+    fn of(kind: u64, key: u64, amount: u64) -> Result<Operation, Answer>
+        ensures { result ≡ operation_of kind key amount }
+    {
+        match (kind, key, amount) {
+            (1, _, 1..) => Ok(Operation::Add { key, amount }),
+            (2, _, 0) => Ok(Operation::Drop { key }),
+            (3, 0, 0) => Ok(Operation::Clear),
+            _ => Err(Answer::Operation),
+        }
+    }
 }
 
 // Whether an operation has the key and the amount that its kind asks.
+#[tactic(auto, unfolding(crate::specs::Operation::operation_of))]
 pub fn lawful(kind: u64, key: u64, amount: u64) -> bool
     ensures { result ≡ lawful_rule kind key amount }
 {
-    if kind == 1 {
-        return 1 <= amount;
-    }
-    if kind == 2 {
-        return amount == 0;
-    }
-    if kind == 3 {
-        if key == 0 {
-            return amount == 0;
-        }
-    }
-    false
+    Operation::of(kind, key, amount).is_ok()
 }
 
 // Zeroes a slice.
 pub fn zero(w: &mut [u64])
     ensures { w.new ≡ zeros w.old }
 {
-    let mut i = 0;
-    while i < w.len() {
-        w[i] = 0;
-        i += 1;
-    }
+    w.fill(0);
 }
 
-// The sum, or the largest number where it does not fit.
-fn grown(x: u64, a: u64) -> u64
-    ensures { result ≡ grown_rule x a }
-{
-    if TOP - x < a {
-        return TOP;
-    }
-    x + a
+// The pairs of lent words, which are as many as the words say, and no more than have room.
+#[derive(Clone, Copy)]
+struct Pairs<'a> {
+    words: &'a [u64],
+    ghost held: { Holds words.now },
 }
 
-// Whether pair `i` is one that is sought.
-fn passes(w: &[u64], key: u64, exact: bool, i: usize) -> bool
-    requires { Holds w.now × (i < entries w.now) }
-    ensures { result ≡ passes_rule exact key (key_at w.now i) }
-{
-    let k = w[2 * i + 2];
-    if exact {
-        return k == key;
+impl<'a> Pairs<'a> {
+    // Those of a copy, where it is fit.
+    fn of(w: &'a [u64]) -> Result<Pairs<'a>, Answer>
+        ensures { MatchResult result (λ p. (p.words.now ≡ w.now) × (fits w.now ≡ true)) (λ a. fits w.now ≡ false) }
+    {
+        fit(w)?;
+        Ok(Pairs { words: w })
     }
-    key <= k
-}
 
-// How many of a turn's pairs, from `i` on, fail before one that passes.
-fn failing(w: &[u64], key: u64, exact: bool, i: usize) -> usize
-    requires { Holds w.now × (i + 4 ≤ entries w.now) }
-    ensures { (first_from exact key w.now i ≡ first_from exact key w.now (i + result)) × (result ≤ 4) }
-{
-    if passes(w, key, exact, i) {
-        return 0;
+    fn count(self) -> usize
+        ensures { result ≡ entries self.entry.words.now }
+    {
+        self.words[0] as usize
     }
-    if passes(w, key, exact, i + 1) {
-        return 1;
-    }
-    if passes(w, key, exact, i + 2) {
-        return 2;
-    }
-    if passes(w, key, exact, i + 3) {
-        return 3;
-    }
-    TURN
-}
 
-// Whole turns, up to a pair that passes: where the walk has to go on.
-fn turns(w: &[u64], key: u64, exact: bool) -> usize
-    requires { Holds w.now }
-    ensures { (first_rule exact key w.now ≡ first_from exact key w.now result) × (result ≤ entries w.now) }
-{
-    let n = w[0] as usize / TURN;
-    let mut t = 0;
-    while t < n {
-        let k = failing(w, key, exact, TURN * t);
-        if k < TURN {
-            return TURN * t + k;
+    fn key(self, i: usize) -> u64
+        requires { i < entries self.words.now }
+        ensures { result ≡ key_at self.entry.words.now i }
+    {
+        self.words[2 * i + 2]
+    }
+
+    // Key and count of pair `i`.
+    fn pair(self, i: usize) -> &'a [u64]
+        requires { i < entries self.words.now }
+        ensures { result.now ≡ take 2 (drop (2 * i + 2) self.entry.words.now) }
+    {
+        &self.words[2 * i + 2..2 * i + 4]
+    }
+
+    // Entry count, spill and the used pairs.
+    fn used(self) -> &'a [u64]
+        ensures { result.now ≡ used_of self.entry.words.now }
+    {
+        &self.words[..2 * self.count() + 2]
+    }
+
+    // Whether pair `i` is one that is sought. By a flag, as the rule has it: of a closure each contract below would have to say what it computes.
+    fn passes(self, key: u64, exact: bool, i: usize) -> bool
+        requires { i < entries self.words.now }
+        ensures { result ≡ passes_rule exact key (key_at self.entry.words.now i) }
+    {
+        let k = self.key(i);
+        if exact { k == key } else { key <= k }
+    }
+
+    // How many of a turn's pairs, from `i` on, fail before one that passes.
+    fn failing(self, key: u64, exact: bool, i: usize) -> usize
+        requires { i + 4 ≤ entries self.words.now }
+        ensures { (first_from exact key self.entry.words.now i ≡ first_from exact key self.entry.words.now (i + result)) × (result ≤ 4) }
+    {
+        for k in 0..TURN {
+            if self.passes(key, exact, i + k) {
+                return k;
+            }
         }
-        t += 1;
+        TURN
     }
-    TURN * t
-}
 
-// The first used pair whose key passes, or the entry count. A walk costs less by turns, as its end is asked for once in each.
-fn first(w: &[u64], key: u64, exact: bool) -> usize
-    requires { Holds w.now }
-    ensures { (result ≡ first_rule exact key w.now) × (result ≤ entries w.now) }
-{
-    let n = w[0] as usize;
-    let mut i = turns(w, key, exact);
-    while i < n {
-        if passes(w, key, exact, i) {
-            return i;
+    // Whole turns, up to a pair that passes: where the walk has to go on.
+    fn turns(self, key: u64, exact: bool) -> usize
+        ensures { (first_rule exact key self.entry.words.now ≡ first_from exact key self.entry.words.now result) × (result ≤ entries self.entry.words.now) }
+    {
+        let n = self.count() / TURN;
+        for t in 0..n {
+            let k = self.failing(key, exact, TURN * t);
+            if k < TURN {
+                return TURN * t + k;
+            }
         }
-        i += 1;
+        TURN * n
     }
-    i
-}
 
-// The same by halving: of `n` pairs from `i` on the middle one says which half is left.
-fn halved(w: &[u64], key: u64) -> usize
-    requires { Holds w.now }
-    ensures { (result ≡ halved_rule key w.now) × (result ≤ entries w.now) }
-{
-    let mut i = 0;
-    let mut n = w[0] as usize;
-    while 0 < n {
-        let at = i + n / 2;
-        if key <= w[2 * at + 2] {
-            n = n / 2;
-        } else {
-            i = at + 1;
-            n = (n - 1) / 2;
+    // The first used pair whose key passes, or the entry count. A walk costs less by turns, as its end is asked for once in each.
+    fn first(self, key: u64, exact: bool) -> usize
+        ensures { (result ≡ first_rule exact key self.entry.words.now) × (result ≤ entries self.entry.words.now) }
+    {
+        let n = self.count();
+        for i in self.turns(key, exact)..n {
+            if self.passes(key, exact, i) {
+                return i;
+            }
+        }
+        n
+    }
+
+    // The same by halving: of `n` pairs from `i` on the middle one says which half is left.
+    // A loop: of keys in any order std's searches say nothing, and `halved` says where this one ends.
+    fn halved(self, key: u64) -> usize
+        ensures { (result ≡ halved_rule key self.entry.words.now) × (result ≤ entries self.entry.words.now) }
+    {
+        let mut i = 0;
+        let mut n = self.count();
+        while 0 < n {
+            let at = i + n / 2;
+            if key <= self.key(at) {
+                n = n / 2;
+            } else {
+                i = at + 1;
+                n = (n - 1) / 2;
+            }
+        }
+        i
+    }
+
+    // Where the search for the key ends.
+    fn end(self, how: Search, key: u64) -> usize
+        ensures { (result ≡ find_by how key self.entry.words.now) × (result ≤ entries self.entry.words.now) }
+    {
+        match how {
+            Search::Walk => self.first(key, true),
+            Search::Halve => self.halved(key),
         }
     }
-    i
-}
 
-// Where the key's pair is, if it has one.
-fn find(how: Search, w: &[u64], key: u64) -> usize
-    requires { Holds w.now }
-    ensures { (result ≡ find_by how key w.now) × (result ≤ entries w.now) }
-{
-    match how {
-        Search::Walk => first(w, key, true),
-        Search::Halve => halved(w, key),
+    // The key's pair, or where the search for it has ended.
+    fn find(self, how: Search, key: u64) -> Result<usize, usize>
+        ensures { MatchResult result (Found how key self.entry.words.now) (Missing how key self.entry.words.now) }
+    {
+        let i = self.end(how, key);
+        if i < self.count() && self.key(i) == key {
+            return Ok(i);
+        }
+        Err(i)
+    }
+
+    // Where a new pair of the key goes, whose search has ended at `i`, where a halving puts it.
+    fn place(self, how: Search, key: u64, i: usize) -> usize
+        requires { (i ≡ find_by how key self.words.now) × (i ≤ entries self.words.now) }
+        ensures { (result ≡ place_by how key self.entry.words.now) × (result ≤ entries self.entry.words.now) }
+    {
+        match how {
+            Search::Walk => self.first(key, false),
+            Search::Halve => i,
+        }
+    }
+
+    // How the keys may be searched: by halving only where they rise, so that none is there twice.
+    fn way(self) -> Search
+        ensures { result ≡ Halve → Rising self.entry.words.now }
+    {
+        for i in 1..self.count() {
+            if self.key(i) <= self.key(i - 1) {
+                return Search::Walk;
+            }
+        }
+        Search::Halve
+    }
+
+    // Whether the key is there, and its count.
+    fn tell(self, how: Search, key: u64, out: &mut [u64])
+        requires { Ready how self.words.now × (length out.old ≡ 2) }
+        ensures { out.new ≡ told (look_rule key (filled self.entry.words.now)) }
+    {
+        match self.find(how, key) {
+            Ok(i) => {
+                out[0] = 1;
+                out[1] = self.words[2 * i + 3];
+            }
+            Err(_) => {
+                out[0] = 0;
+                out[1] = 0;
+            }
+        }
     }
 }
 
-// Pair `i` is used, and has the key.
-fn has_key(w: &[u64], key: u64, i: usize) -> bool
-    requires { Holds w.now }
-    ensures { result ≡ has_key key w.now i }
-{
-    if i < w[0] as usize {
-        return w[2 * i + 2] == key;
-    }
-    false
-}
-
-// Where a new pair of the key goes, which was not found at `i`: halving has ended there already.
-fn place(how: Search, w: &[u64], key: u64, i: usize) -> usize
-    requires { Holds w.now × (i ≡ find_by how key w.now) × (i ≤ entries w.now) }
-    ensures { (result ≡ place_by how key w.now) × (result ≤ entries w.now) }
-{
-    match how {
-        Search::Walk => first(w, key, false),
-        Search::Halve => i,
-    }
-}
-
-// The first `m` words of a part move up by two, from the last one down, behind a new pair.
+// The first `m` words of a part move up by two, behind a new pair.
 fn open_gap(part: &mut [u64], m: usize, key: u64, amount: u64)
     requires { m + 2 ≤ length part.old }
     ensures { part.new ≡ opened m key amount part.old }
 {
-    let mut j = m;
-    while 0 < j {
-        j -= 1;
-        part[j + 2] = part[j];
-    }
+    part.copy_within(..m, 2);
     part[0] = key;
     part[1] = amount;
 }
 
-// The `m` words that stand `g` behind a part's begin move down to it.
-fn move_down(part: &mut [u64], g: usize, m: usize)
-    requires { g + m ≤ length part.old }
-    ensures { part.new ≡ take m (drop g part.old) ++ drop m part.old }
-{
-    let mut j = 0;
-    while j < m {
-        part[j] = part[g + j];
-        j += 1;
-    }
-}
-
 // Closes a gap of `g` words before `m` words: they move down, and the words that they leave become zero.
+#[tactic(auto, unfolding(crate::specs::Copy::close_rule))]
 pub fn close_gap(part: &mut [u64], g: usize, m: usize)
     ensures { part.new ≡ close_rule g m part.old }
 {
     let n = part.len();
-    if n < g {
+    if n < g || n - g < m {
         return;
     }
-    if n - g < m {
-        return;
-    }
-    move_down(part, g, m);
+    part.copy_within(g..g + m, 0);
     zero(&mut part[m..m + g]);
 }
 
@@ -271,78 +310,64 @@ fn add_in(how: Search, w: &mut [u64], key: u64, amount: u64)
     requires { Fit w.old }
     ensures { w.new ≡ added_by how key amount w.old }
 {
-    let n = w[0] as usize;
-    let i = find(how, &w[..], key);
-    if has_key(&w[..], key, i) {
-        let at = 2 * i + 3;
-        w[at] = grown(w[at], amount);
-        return;
+    let pairs = Pairs { words: w };
+    let n = pairs.count();
+    match pairs.find(how, key) {
+        Ok(i) => w[2 * i + 3] = w[2 * i + 3].saturating_add(amount),
+        Err(_) if PAIRS <= n => w[1] = w[1].saturating_add(1),
+        Err(i) => {
+            let j = pairs.place(how, key, i);
+            open_gap(&mut w[2 * j + 2..], 2 * (n - j), key, amount);
+            w[0] = (n + 1) as u64;
+        }
     }
-    if MOST <= w[0] {
-        w[1] = grown(w[1], 1);
-        return;
-    }
-    let j = place(how, &w[..], key, i);
-    let at = 2 * j + 2;
-    open_gap(&mut w[at..], 2 * (n - j), key, amount);
-    w[0] = (n + 1) as u64;
 }
 
 fn drop_in(how: Search, w: &mut [u64], key: u64)
     requires { Fit w.old }
     ensures { w.new ≡ dropped_by how key w.old }
 {
-    let n = w[0] as usize;
-    let i = find(how, &w[..], key);
-    if has_key(&w[..], key, i) {
-        let at = 2 * i + 2;
-        close_gap(&mut w[at..], 2, 2 * (n - i - 1));
+    let pairs = Pairs { words: w };
+    let n = pairs.count();
+    if let Ok(i) = pairs.find(how, key) {
+        close_gap(&mut w[2 * i + 2..], 2, 2 * (n - i - 1));
         w[0] = (n - 1) as u64;
     }
 }
 
 // The operation alone, on a copy that is fit.
-fn effect(how: Search, w: &mut [u64], kind: u64, key: u64, amount: u64)
+fn effect(how: Search, w: &mut [u64], what: Operation)
     requires { Fit w.old }
-    ensures { w.new ≡ applied_by how kind key amount w.old }
+    ensures { w.new ≡ made_by how what w.old }
 {
-    if kind == 1 {
-        add_in(how, w, key, amount);
-        return;
-    }
-    if kind == 2 {
-        drop_in(how, w, key);
-        return;
-    }
-    if kind == 3 {
-        zero(w);
+    match what {
+        Operation::Add { key, amount } => add_in(how, w, key, amount),
+        Operation::Drop { key } => drop_in(how, w, key),
+        Operation::Clear => zero(w),
     }
 }
 
-fn is_fit(w: &[u64]) -> bool
-    ensures { result ≡ fits_rule w.now }
+// What `apply_by` tries: what is refused has changed nothing.
+fn tried(how: Search, w: &mut [u64], kind: u64, key: u64, amount: u64) -> Result<(), Answer>
+    ensures { record { answer = answer_of result; copy = w.new } ≡ apply_by how kind key amount w.old }
 {
-    if w.len() != WORDS {
-        return false;
-    }
-    w[0] <= MOST
+    fit(w)?;
+    effect(how, w, Operation::of(kind, key, amount)?);
+    Ok(())
 }
 
 // An operation on a copy, by how its key is searched: refused with nothing changed, or made.
 pub fn apply_by(how: Search, w: &mut [u64], kind: u64, key: u64, amount: u64) -> Answer
     ensures { record { answer = result; copy = w.new } ≡ apply_by how kind key amount w.old }
 {
-    if !is_fit(&w[..]) {
-        return fit(&w[..]);
+    match tried(how, w, kind, key, amount) {
+        Ok(()) => Answer::Done,
+        Err(a) => a,
     }
-    if !lawful(kind, key, amount) {
-        return Answer::Operation;
-    }
-    effect(how, w, kind, key, amount);
-    Answer::Done
 }
 
-// An operation on a copy: refused with nothing changed, or made.
+// An operation on a copy: refused with nothing changed, or made. It stays beside `apply_by` as what README and docs name: a walk, which
+// asks for no order.
 pub fn apply(w: &mut [u64], kind: u64, key: u64, amount: u64) -> Answer
     ensures { record { answer = result; copy = w.new } ≡ apply_rule kind key amount w.old }
 {
@@ -374,19 +399,17 @@ pub fn clear(w: &mut [u64]) -> Answer
 pub fn look_up_by(how: Search, w: &[u64], key: u64) -> &[u64]
     ensures { result.now ≡ look_by how key w.now }
 {
-    if !is_fit(w) {
-        return &w[..0];
+    let Ok(pairs) = Pairs::of(w) else {
+        return &[];
+    };
+    match pairs.find(how, key) {
+        Ok(i) => pairs.pair(i),
+        Err(_) => &[],
     }
-    let i = find(how, w, key);
-    if has_key(w, key, i) {
-        let at = 2 * i + 2;
-        let end = at + 2;
-        return &w[at..end];
-    }
-    &w[..0]
 }
 
-// The two words of the key's pair, as a part of the copy; no words where it is absent or the copy is unfit.
+// The two words of the key's pair, as a part of the copy; no words where it is absent or the copy is unfit. It stays
+// beside `look_up_by` as `apply` does beside `apply_by`.
 pub fn look_up(w: &[u64], key: u64) -> &[u64]
     ensures { result.now ≡ look_rule key w.now }
 {
@@ -394,14 +417,14 @@ pub fn look_up(w: &[u64], key: u64) -> &[u64]
 }
 
 // The used part, uncopied: entry count, spill and the used pairs.
+#[tactic(auto, unfolding(crate::specs::Copy::used_rule))]
 pub fn used(w: &[u64]) -> &[u64]
     ensures { result.now ≡ used_rule w.now }
 {
-    if !is_fit(w) {
-        return &w[..0];
+    match Pairs::of(w) {
+        Ok(pairs) => pairs.used(),
+        Err(_) => &[],
     }
-    let end = 2 * w[0] as usize + 2;
-    &w[..end]
 }
 
 // ---- many look ups at once
@@ -409,64 +432,23 @@ pub fn used(w: &[u64]) -> &[u64]
 fn is_twice(n: usize, m: usize) -> bool
     ensures { result ≡ eqb n (2 * m) }
 {
-    if n % 2 == 1 {
-        return false;
-    }
-    n / 2 == m
+    n % 2 == 0 && n / 2 == m
 }
 
 // It is as long as its entry count says.
 fn is_view(v: &[u64]) -> bool
     ensures { result ≡ is_view v.now }
 {
-    let n = v.len();
-    if n < 2 {
-        return false;
-    }
-    is_twice(n - 2, v[0] as usize)
+    2 <= v.len() && is_twice(v.len() - 2, v[0] as usize)
 }
 
-// How a view may be searched: by halving only where the keys rise, so that none is there twice.
-fn way(v: &[u64]) -> Search
-    requires { Holds v.now }
-    ensures { result ≡ Halve → Rising v.now }
+// By an index: of what comes back through `chunks_exact_mut` std says only the length.
+fn tell_all(how: Search, v: Pairs, keys: &[u64], out: &mut [u64])
+    requires { Ready how v.words.now × (length out.old ≡ 2 * length keys.now) }
+    ensures { out.new ≡ told_all keys.now (filled v.entry.words.now) }
 {
-    let n = v[0] as usize;
-    let mut i = 0;
-    while i + 1 < n {
-        if v[2 * i + 4] <= v[2 * i + 2] {
-            return Search::Walk;
-        }
-        i += 1;
-    }
-    Search::Halve
-}
-
-// Whether the key is there, and its count.
-fn tell_one(how: Search, v: &[u64], key: u64, out: &mut [u64])
-    requires { Ready how v.now × (length out.old ≡ 2) }
-    ensures { out.new ≡ told (look_rule key (filled v.now)) }
-{
-    let i = find(how, v, key);
-    if has_key(v, key, i) {
-        out[0] = 1;
-        out[1] = v[2 * i + 3];
-        return;
-    }
-    out[0] = 0;
-    out[1] = 0;
-}
-
-fn tell_all(how: Search, v: &[u64], keys: &[u64], out: &mut [u64])
-    requires { Ready how v.now × (length out.old ≡ 2 * length keys.now) }
-    ensures { out.new ≡ told_all keys.now (filled v.now) }
-{
-    let mut i = 0;
-    while i < keys.len() {
-        let at = 2 * i;
-        let end = at + 2;
-        tell_one(how, v, keys[i], &mut out[at..end]);
-        i += 1;
+    for (i, key) in keys.iter().enumerate() {
+        v.tell(how, *key, &mut out[2 * i..2 * i + 2]);
     }
 }
 
@@ -475,15 +457,13 @@ fn tell_all(how: Search, v: &[u64], keys: &[u64], out: &mut [u64])
 pub fn look_up_all(v: &[u64], keys: &[u64], out: &mut [u64]) -> Answer
     ensures { record { answer = result; copy = out.new } ≡ look_all_rule v.now keys.now out.old }
 {
-    if !is_view(v) {
-        return Answer::Length;
-    }
-    if !is_twice(out.len(), keys.len()) {
+    if !is_view(v) || !is_twice(out.len(), keys.len()) {
         return Answer::Length;
     }
     if MOST < v[0] {
         return Answer::Broken;
     }
-    tell_all(way(v), v, keys, out);
+    let pairs = Pairs { words: v };
+    tell_all(pairs.way(), pairs, keys, out);
     Answer::Done
 }

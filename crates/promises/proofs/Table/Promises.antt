@@ -3,7 +3,7 @@ use Prim.Native.Nat.{ℕ}
 use mathlib.Core.Bool.{Bool}
 use mathlib.Core.List.{List}
 use Rattle.table.specs.declared.Answer.{Answer}
-use Rattle.table.specs.Answers.{number}
+use Rattle.table.specs.Answers.{number, outcome}
 use Rattle.table.specs.declared.Search.{Search}
 use Rattle.table.specs.Copy.{zeros, lawful, fitness, Out, apply_by, apply_rule, look_by, look_rule, used_rule, close_rule}
 use Rattle.table.specs.Many.{look_all_rule}
@@ -23,7 +23,7 @@ LawfulPromise f =
 -- ---- of a copy that is read
 
 abbrev pub FitPromise : (List ℕ → Answer) → Type 0
-FitPromise f = (w : Words) → Keeps (typed κ₁ proofs.fit.Kinds.ps) (proofs.fit.Reads.Post κ₁) (ref w.list, tt) (f w.list)
+FitPromise f = (w : Words) → Keeps (typed κ₁ proofs.fit.Kinds.ps) (proofs.fit.Reads.Post κ₁) (ref w.list, tt) (outcome (f w.list))
 
 abbrev pub LookPromise : (ℕ → List ℕ → List ℕ) → Type 0
 LookPromise f =

@@ -9,7 +9,7 @@ use lib.Dec.{eqb, leb, ltb}
 use native.Mathlib.Omega.{arith}
 use Rattle.table.specs.declared.Answer.{Answer}
 use Rattle.table.specs.declared.Answer.TheVariants.{Done, Length, Broken, Operation}
-use Rattle.table.specs.Answers.{number}
+use Rattle.table.specs.Answers.{number, answer_of}
 use Rattle.table.specs.Seek.{seek, halve}
 use Rattle.table.specs.declared.Search.{Search}
 use Rattle.table.specs.declared.Search.TheVariants.{Walk, Halve}
@@ -79,7 +79,7 @@ one_more w = elim (eqb (length w) words) [ true ↦ elim (leb (entries w) (pairs
 
 one_more_wrong : FitPromise one_more → ⊥
 unfolding rules
-one_more_wrong h = apart number refl (h (copy ((pairs + 1) ∷ []) refl) refl)
+one_more_wrong h = apart (λ r. number (answer_of r)) refl (h (copy ((pairs + 1) ∷ []) refl) refl)
 
 -- any length passes
 abbrev any_length : List ℕ → Answer
@@ -87,7 +87,7 @@ any_length w = elim (leb (entries w) pairs) [ true ↦ Done | false ↦ Broken ]
 
 any_length_wrong : FitPromise any_length → ⊥
 unfolding rules
-any_length_wrong h = apart number refl (h (slice (copy_with [] ++ (0 ∷ [])) refl) refl)
+any_length_wrong h = apart (λ r. number (answer_of r)) refl (h (slice (copy_with [] ++ (0 ∷ [])) refl) refl)
 
 -- every copy is broken
 abbrev none_fit : List ℕ → Answer
@@ -95,7 +95,7 @@ none_fit w = Broken
 
 none_fit_wrong : FitPromise none_fit → ⊥
 unfolding rules
-none_fit_wrong h = apart number refl (h none refl)
+none_fit_wrong h = apart (λ r. number (answer_of r)) refl (h none refl)
 
 -- ---- lawful
 
