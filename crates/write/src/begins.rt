@@ -8,6 +8,7 @@ ghost use Rattle.write.specs.Steps.{polling, beginning};
 ghost use Rattle.write.specs.Call.{ops_in};
 ghost use Rattle.write.specs.Begins.{writer_signs, step_signs, all_lawful, crowds as crowds_rule, appended as appended_rule, append_by, column_of, begun as begun_rule, value as value_rule, taking as taking_rule, opened as opened_rule, open_on};
 
+use crate::operations::{Operation, Operations};
 use crate::{Moved, Opening, phases, slices, steps};
 use read::handles::sign;
 use read::{Control, Job, LOG_ROOM, Phase, Slot, Verdict, admission, guards, handles};
@@ -82,11 +83,9 @@ fn crowds(n: usize, c: Control) -> bool
 }
 
 // While `first` at once to the copy that the pointer does not name, and later into the log.
-fn appended(
+fn appended<B: Operations>(
     how: Search,
-    kind: u64,
-    key: u64,
-    amount: u64,
+    ops: B,
     c: Control,
     s: Slot,
     e: u64,
@@ -94,19 +93,40 @@ fn appended(
     right: &mut [u64],
     log: &mut [u64],
 ) -> Moved
-    requires { crowds_rule 1 c ≡ false }
-    ensures { lent result left.new right.new log.new ≡ appended_rule how c.first (op kind key amount ∷ []) c s e left.old right.old log.old }
+    requires { (all_lawful (B.listed ops) ≡ true) × (crowds_rule (length (B.listed ops)) c ≡ false) }
+    ensures { lent result left.new right.new log.new ≡ appended_rule how c.first (B.listed ops) c s e left.old right.old log.old }
 {
     if c.first {
-        slices::operate(how, c.right, kind, key, amount, left, right);
+        slices::operate(how, c.right, ops, left, right);
         return value(0, c, stirred(s), e);
     }
     let n = c.length;
-    slices::enlog(log, n, kind, key, amount);
-    value(0, phases::with_log(n + 1, c.swapped, c), s, e)
+    ops.enlog(log, n);
+    value(0, phases::with_log(n + ops.how_many(), c.swapped, c), s, e)
 }
 
-// Append, by how its key is searched: an operation, refused or made. A batch of one, without a walk over words.
+// All of them refused or made.
+fn append<B: Operations>(
+    how: Search,
+    ops: B,
+    c: Control,
+    s: Slot,
+    e: u64,
+    left: &mut [u64],
+    right: &mut [u64],
+    log: &mut [u64],
+) -> Moved
+    ensures { lent result left.new right.new log.new ≡ append_by how (B.listed ops) c s e left.old right.old log.old }
+{
+    let unlawful = !ops.are_lawful();
+    let full = crowds(ops.how_many(), c);
+    match writer_verdict(7, unlawful, full, c, s) {
+        Ok(()) => appended(how, ops, c, s, e, left, right, log),
+        Err(a) => steps::refused(a, c, s, e),
+    }
+}
+
+// Append, by how its key is searched: an operation, refused or made.
 pub fn append_by(
     how: Search,
     kind: u64,
@@ -121,38 +141,15 @@ pub fn append_by(
 ) -> Moved
     ensures { lent result left.new right.new log.new ≡ append_by how (op kind key amount ∷ []) c s e left.old right.old log.old }
 {
-    let unlawful = !table::lawful(kind, key, amount);
-    match writer_verdict(7, unlawful, crowds(1, c), c, s) {
-        Ok(()) => appended(how, kind, key, amount, c, s, e, left, right, log),
-        Err(a) => steps::refused(a, c, s, e),
-    }
-}
-
-// The same, of many.
-fn extended(
-    how: Search,
-    ops: &[u64],
-    c: Control,
-    s: Slot,
-    e: u64,
-    left: &mut [u64],
-    right: &mut [u64],
-    log: &mut [u64],
-) -> Moved
-    requires { (all_lawful (ops_in ops.now) ≡ true) × (crowds_rule (length (ops_in ops.now)) c ≡ false) }
-    ensures { lent result left.new right.new log.new ≡ appended_rule how c.first (ops_in ops.now) c s e left.old right.old log.old }
-{
-    if c.first {
-        slices::operate_all(how, c.right, ops, left, right);
-        return value(0, c, stirred(s), e);
-    }
-    let n = c.length;
-    slices::enlog_all(log, n, ops);
-    value(
-        0,
-        phases::with_log(n + slices::count(ops), c.swapped, c),
+    append(
+        how,
+        Operation { kind, key, amount },
+        c,
         s,
         e,
+        left,
+        right,
+        log,
     )
 }
 
@@ -169,12 +166,7 @@ pub fn extend_by(
 ) -> Moved
     ensures { lent result left.new right.new log.new ≡ append_by how (ops_in ops.now) c s e left.old right.old log.old }
 {
-    let unlawful = !slices::lawful_batch(ops);
-    let full = crowds(slices::count(ops), c);
-    match writer_verdict(7, unlawful, full, c, s) {
-        Ok(()) => extended(how, ops, c, s, e, left, right, log),
-        Err(a) => steps::refused(a, c, s, e),
-    }
+    append(how, ops, c, s, e, left, right, log)
 }
 
 // ---- publish, try, flush, take

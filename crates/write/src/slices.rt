@@ -7,7 +7,7 @@ ghost use Rattle.write.specs.Steps.{of_left, of_right, operated_by, log_applied_
 ghost use Rattle.write.specs.Call.{ops_in};
 ghost use Rattle.write.specs.Begins.{all_lawful, lawful_batch, logged, operated_all_by, logged_all};
 
-use crate::BATCH_ROOM;
+use crate::operations::Operations;
 use read::LOG_ROOM;
 use table::Search;
 
@@ -39,75 +39,22 @@ fn copy_over(from: &[u64], to: &mut [u64])
     to[..n].copy_from_slice(&from[..n]);
 }
 
-// ---- operations in words, three each
-
-// How many operations there are, one that is cut short too.
-pub(crate) fn count(ops: &[u64]) -> usize
-    ensures { result ≡ length (ops_in ops.now) }
-{
-    ops.len().div_ceil(3)
-}
-
-// Each is whole, and as its kind asks.
-fn all_lawful(ops: &[u64]) -> bool
-    ensures { result ≡ all_lawful (ops_in ops.now) }
-{
-    let (whole, rest) = ops.as_chunks::<3>();
-    for op in whole {
-        let [kind, key, amount] = *op;
-        if !table::lawful(kind, key, amount) {
-            return false;
-        }
-    }
-    rest.is_empty()
-}
-
-pub(crate) fn lawful_batch(ops: &[u64]) -> bool
-    ensures { result ≡ lawful_batch (ops_in ops.now) }
-{
-    count(ops) <= BATCH_ROOM && all_lawful(ops)
-}
-
-// One after the other; a last one that is cut short is none.
-fn apply_all(how: Search, w: &mut [u64], ops: &[u64])
-    requires { all_lawful (ops_in ops.now) ≡ true }
-    ensures { w.new ≡ operated_all_by how (ops_in ops.now) w.old }
-{
-    let (whole, _) = ops.as_chunks::<3>();
-    for op in whole {
-        let [kind, key, amount] = *op;
-        table::apply_by(how, w, kind, key, amount);
-    }
-}
-
 // ---- on the copy that the pointer does not name; `side`: it names the right one
 
-pub(crate) fn operate(
+pub(crate) fn operate<B: Operations>(
     how: Search,
     side: bool,
-    kind: u64,
-    key: u64,
-    amount: u64,
+    ops: B,
     left: &mut [u64],
     right: &mut [u64],
 )
-    ensures { (left.new ≡ of_left side (operated_by how kind key amount) left.old) × (right.new ≡ of_right side (operated_by how kind key amount) right.old) }
+    requires { all_lawful (B.listed ops) ≡ true }
+    ensures { (left.new ≡ of_left side (operated_all_by how (B.listed ops)) left.old) × (right.new ≡ of_right side (operated_all_by how (B.listed ops)) right.old) }
 {
     if side {
-        table::apply_by(how, left, kind, key, amount);
+        ops.apply(how, left);
     } else {
-        table::apply_by(how, right, kind, key, amount);
-    }
-}
-
-pub(crate) fn operate_all(how: Search, side: bool, ops: &[u64], left: &mut [u64], right: &mut [u64])
-    requires { all_lawful (ops_in ops.now) ≡ true }
-    ensures { (left.new ≡ of_left side (operated_all_by how (ops_in ops.now)) left.old) × (right.new ≡ of_right side (operated_all_by how (ops_in ops.now)) right.old) }
-{
-    if side {
-        apply_all(how, left, ops);
-    } else {
-        apply_all(how, right, ops);
+        ops.apply(how, right);
     }
 }
 
@@ -156,36 +103,5 @@ pub(crate) fn unlog(log: &mut [u64], n: usize)
 {
     if n <= LOG_ROOM {
         table::close_gap(log, 3, 3 * n.saturating_sub(1));
-    }
-}
-
-fn put(log: &mut [u64], i: usize, x: u64)
-    ensures { log.new ≡ slice_set log.old i x }
-{
-    if i < log.len() {
-        log[i] = x;
-    }
-}
-
-// An operation behind `n` others.
-pub(crate) fn enlog(log: &mut [u64], n: usize, kind: u64, key: u64, amount: u64)
-    requires { n < log_room }
-    ensures { log.new ≡ logged n kind key amount log.old }
-{
-    let at = 3 * n;
-    put(log, at, kind);
-    put(log, at + 1, key);
-    put(log, at + 2, amount);
-}
-
-// Operations behind `n` others.
-pub(crate) fn enlog_all(log: &mut [u64], n: usize, ops: &[u64])
-    requires { (n + length (ops_in ops.now) ≤ log_room) × (all_lawful (ops_in ops.now) ≡ true) }
-    ensures { log.new ≡ logged_all n (ops_in ops.now) log.old }
-{
-    let (whole, _) = ops.as_chunks::<3>();
-    for (i, op) in whole.iter().enumerate() {
-        let [kind, key, amount] = *op;
-        enlog(log, n + i, kind, key, amount);
     }
 }
