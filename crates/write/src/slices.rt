@@ -1,5 +1,6 @@
 // The lent words: what a step or an append does to the copy that the pointer does not name, and to the log.
-ghost use Rattle.std.specs.Prelude.{◌≡◌, ◌+◌, ◌<◌, ◌≤◌, true, length, slice_index, slice_set};
+ghost use Rattle.std.specs.Fn.{FnOnceReturnsAtMut};
+ghost use Rattle.std.specs.Prelude.{◌≡◌, false, ◌+◌, ◌<◌, ◌≤◌, true, length, slice_index, slice_set};
 ghost use Rattle.table.specs.Copy.{zeros};
 ghost use Rattle.read.specs.Machine.{log_room};
 ghost use Rattle.read.specs.Handles.{copy_of};
@@ -41,6 +42,19 @@ fn copy_over(from: &[u64], to: &mut [u64])
 
 // ---- on the copy that the pointer does not name; `side`: it names the right one
 
+// `f` on that copy.
+fn aside<F: FnOnce(&mut [u64])>(side: bool, left: &mut [u64], right: &mut [u64], f: F)
+    requires { F.IsAlwaysCallable f }
+    ensures named { side ≡ true → (right.new ≡ right.old) × FnOnceReturnsAtMut F.FnOnce f left.old tt left.new }
+    ensures other { side ≡ false → (left.new ≡ left.old) × FnOnceReturnsAtMut F.FnOnce f right.old tt right.new }
+{
+    if side {
+        f(left);
+    } else {
+        f(right);
+    }
+}
+
 pub(crate) fn operate<B: Operations>(
     how: Search,
     side: bool,
@@ -51,11 +65,7 @@ pub(crate) fn operate<B: Operations>(
     requires { all_lawful (B.listed ops) ≡ true }
     ensures { (left.new ≡ of_left side (operated_all_by how (B.listed ops)) left.old) × (right.new ≡ of_right side (operated_all_by how (B.listed ops)) right.old) }
 {
-    if side {
-        ops.apply(how, left);
-    } else {
-        ops.apply(how, right);
-    }
+    aside(side, left, right, |w| ops.apply(how, w));
 }
 
 pub(crate) fn replay(
@@ -68,16 +78,13 @@ pub(crate) fn replay(
 )
     ensures { (left.new ≡ of_left side (log_applied_by how log.now i) left.old) × (right.new ≡ of_right side (log_applied_by how log.now i) right.old) }
 {
-    if side {
-        apply_logged(how, left, log, i);
-    } else {
-        apply_logged(how, right, log, i);
-    }
+    aside(side, left, right, |w| apply_logged(how, w, log, i));
 }
 
 pub(crate) fn synchronize(side: bool, left: &mut [u64], right: &mut [u64])
     ensures { (left.new ≡ of_left side (over (copy_of side left.old right.old)) left.old) × (right.new ≡ of_right side (over (copy_of side left.old right.old)) right.old) }
 {
+    // Not by `aside`: the closure would hold the one copy while the other is lent beside it.
     if side {
         copy_over(&right[..], left);
     } else {
@@ -88,11 +95,7 @@ pub(crate) fn synchronize(side: bool, left: &mut [u64], right: &mut [u64])
 pub(crate) fn erase(side: bool, left: &mut [u64], right: &mut [u64])
     ensures { (left.new ≡ of_left side zeros left.old) × (right.new ≡ of_right side zeros right.old) }
 {
-    if side {
-        table::zero(left);
-    } else {
-        table::zero(right);
-    }
+    aside(side, left, right, |w| table::zero(w));
 }
 
 // ---- on the log
