@@ -15,6 +15,9 @@ use read::handles::sign;
 use read::{Control, Job, LOG_ROOM, Phase, Slot, Verdict, admission, guards, handles};
 use table::{Answer, Search};
 
+// The column of append in the table of admissions.
+const APPEND: usize = 7;
+
 // ---- what speaks against a writer's call, by its column in the table of admissions
 
 fn is_gone(p: Phase) -> bool
@@ -94,7 +97,7 @@ fn appended<B: Operations>(
     Part { control, ..part }.done(0)
 }
 
-// All of them refused or made.
+// Operations, all of them refused or made.
 fn append<B: Operations>(
     how: Search,
     ops: B,
@@ -107,13 +110,13 @@ fn append<B: Operations>(
 {
     let unlawful = !ops.are_lawful();
     let full = crowds(ops.how_many(), part.control);
-    match writer_verdict(7, unlawful, full, part.control, part.slot) {
+    match writer_verdict(APPEND, unlawful, full, part.control, part.slot) {
         Ok(()) => appended(how, ops, part, left, right, log),
         Err(a) => part.refused(a),
     }
 }
 
-// Append, by how its key is searched: an operation, refused or made.
+// Append, by how its key is searched: an operation, refused or made. A door beside `extend_by`, since the promises speak of plain numbers.
 pub fn append_by(
     how: Search,
     kind: u64,

@@ -32,6 +32,7 @@ pub(crate) trait Operations: Copy {
         ensures { log.new ≡ logged_all n (listed self) log.old };
 }
 
+// By index: of a word lent by `get_mut` no proof knows what it leaves.
 fn put(log: &mut [u64], i: usize, x: u64)
     ensures { log.new ≡ slice_set log.old i x }
 {

@@ -19,7 +19,7 @@ fn fetch(log: &[u64], i: usize) -> u64
     log.get(i).copied().unwrap_or(0)
 }
 
-// Operation `i` of the log, applied.
+// Operation `i` of the log, applied. Word by word, since a log that is too short may end inside one.
 fn apply_logged(how: Search, w: &mut [u64], log: &[u64], i: usize)
     ensures { w.new ≡ log_applied_by how log.now i w.old }
 {
