@@ -1,9 +1,7 @@
 -- The calls that are made at once: each rule under the tests that lead to it, as the code's functions meet it.
-use Rattle.std.proofs.Common.{◌≡◌, ℕ, ◌+◌, ◌%◌, ◌^◌, Bool, true, false, not, leb, List, [], ◌∷◌, length, sym, refl, ap, ◌∙◌}
-use mathlib.Core.Bool.{and-true}
+use Rattle.std.proofs.Common.{◌≡◌, ℕ, ◌+◌, ◌%◌, ◌^◌, Bool, true, false, not, leb, List, length, sym, ap, ◌∙◌}
 use borrow.Author.Tests.{not-false}
-use Rattle.table.specs.Copy.{lawful}
-use Rattle.table.specs.Order.{Op, op}
+use Rattle.table.specs.Order.{Op}
 use Rattle.table.specs.declared.Search.{Search}
 use Rattle.table.proofs.Booleans.{both}
 use Rattle.table.specs.declared.Answer.{Answer}
@@ -70,23 +68,3 @@ module _ (os : List Op) (c : Control) (s : Slot) {u f : Bool} {n : ℕ} {v : Ver
 
       pub append_refused : {a : Answer} {m : Moved} → v ≡ Err a → m ≡ refused a c s e → lent m l r g ≡ append_by how os c s e l r g
       append_refused q k = ap (λ (m : Moved). lent m l r g) k ∙ append_by_lem q
-
--- the same of one operation, lawful by itself
-module _ (kind key amount : ℕ) (c : Control) (s : Slot) {u f : Bool} {v : Verdict} (x : u ≡ lawful kind key amount) (y : f ≡ crowds 1 c)
-    (h : v ≡ smallest (writer_signs 7 (not u) f c s))
-  where
-    abbrev one : List Op
-    one = op kind key amount ∷ []
-
-    lawful_one : u ≡ lawful_batch one
-    lawful_one = x ∙ sym (and-true (lawful kind key amount))
-
-    pub one_fits : v ≡ Ok tt → crowds 1 c ≡ false
-    one_fits q = (append_fits one c s lawful_one refl y h q).1
-
-    module _ (how : Search) (e : ℕ) (l r g : List ℕ) where
-      pub one_admitted : {o : Lent Moved} → v ≡ Ok tt → o ≡ appended how c.first one c s e l r g → o ≡ append_by how one c s e l r g
-      one_admitted = append_admitted one c s lawful_one refl y h how e l r g
-
-      pub one_refused : {a : Answer} {m : Moved} → v ≡ Err a → m ≡ refused a c s e → lent m l r g ≡ append_by how one c s e l r g
-      one_refused = append_refused one c s lawful_one refl y h how e l r g

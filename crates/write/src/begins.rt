@@ -6,12 +6,17 @@ ghost use Rattle.read.specs.Handles.{smallest, with_due};
 ghost use Rattle.read.specs.Calls.{lent};
 ghost use Rattle.write.specs.Steps.{polling, beginning};
 ghost use Rattle.write.specs.Call.{ops_in};
-ghost use Rattle.write.specs.Begins.{writer_signs, step_signs, all_lawful, crowds as crowds_rule, appended as appended_rule, append_by, column_of, begun as begun_rule, value as value_rule, taking as taking_rule, opened as opened_rule, open_on};
+ghost use Rattle.write.specs.Begins.{writer_signs, step_signs, all_lawful, crowds as crowds_rule, appended as appended_rule, append_by, column_of, begun as begun_rule, taking as taking_rule, opened as opened_rule, open_on};
 
-use crate::{Moved, Opening, phases, slices, steps};
+use crate::operations::{Operation, Operations};
+use crate::steps::Part;
+use crate::{Moved, Opening, phases, slices};
 use read::handles::sign;
 use read::{Control, Job, LOG_ROOM, Phase, Slot, Verdict, admission, guards, handles};
 use table::{Answer, Search};
+
+// The column of append in the table of admissions.
+const APPEND: usize = 7;
 
 // ---- what speaks against a writer's call, by its column in the table of admissions
 
@@ -62,18 +67,6 @@ fn stirred(s: Slot) -> Slot
     }
 }
 
-fn value(v: u64, c: Control, s: Slot, e: u64) -> Moved
-    ensures { result ≡ value_rule v c s e }
-{
-    Moved {
-        answer: Answer::Done,
-        value: v,
-        control: c,
-        slot: s,
-        snapshot: e,
-    }
-}
-
 // The log has no room for `n` operations, and is what they go to.
 fn crowds(n: usize, c: Control) -> bool
     ensures { result ≡ crowds_rule n c }
@@ -82,31 +75,48 @@ fn crowds(n: usize, c: Control) -> bool
 }
 
 // While `first` at once to the copy that the pointer does not name, and later into the log.
-fn appended(
+fn appended<B: Operations>(
     how: Search,
-    kind: u64,
-    key: u64,
-    amount: u64,
-    c: Control,
-    s: Slot,
-    e: u64,
+    ops: B,
+    part: Part,
     left: &mut [u64],
     right: &mut [u64],
     log: &mut [u64],
 ) -> Moved
-    requires { crowds_rule 1 c ≡ false }
-    ensures { lent result left.new right.new log.new ≡ appended_rule how c.first (op kind key amount ∷ []) c s e left.old right.old log.old }
+    requires { (all_lawful (B.listed ops) ≡ true) × (crowds_rule (length (B.listed ops)) part.control ≡ false) }
+    ensures { lent result left.new right.new log.new ≡ appended_rule how part.control.first (B.listed ops) part.control part.slot part.snapshot left.old right.old log.old }
 {
+    let c = part.control;
     if c.first {
-        slices::operate(how, c.right, kind, key, amount, left, right);
-        return value(0, c, stirred(s), e);
+        slices::operate(how, c.right, ops, left, right);
+        let slot = stirred(part.slot);
+        return Part { slot, ..part }.done(0);
     }
-    let n = c.length;
-    slices::enlog(log, n, kind, key, amount);
-    value(0, phases::with_log(n + 1, c.swapped, c), s, e)
+    ops.enlog(log, c.length);
+    let control = phases::with_log(c.length + ops.how_many(), c.swapped, c);
+    Part { control, ..part }.done(0)
 }
 
-// Append, by how its key is searched: an operation, refused or made. A batch of one, without a walk over words.
+// Operations, all of them refused or made.
+fn append<B: Operations>(
+    how: Search,
+    ops: B,
+    part: Part,
+    left: &mut [u64],
+    right: &mut [u64],
+    log: &mut [u64],
+) -> Moved
+    ensures { lent result left.new right.new log.new ≡ append_by how (B.listed ops) part.control part.slot part.snapshot left.old right.old log.old }
+{
+    let unlawful = !ops.are_lawful();
+    let full = crowds(ops.how_many(), part.control);
+    match writer_verdict(APPEND, unlawful, full, part.control, part.slot) {
+        Ok(()) => appended(how, ops, part, left, right, log),
+        Err(a) => part.refused(a),
+    }
+}
+
+// Append, by how its key is searched: an operation, refused or made. A door beside `extend_by`, since the promises speak of plain numbers.
 pub fn append_by(
     how: Search,
     kind: u64,
@@ -121,39 +131,12 @@ pub fn append_by(
 ) -> Moved
     ensures { lent result left.new right.new log.new ≡ append_by how (op kind key amount ∷ []) c s e left.old right.old log.old }
 {
-    let unlawful = !table::lawful(kind, key, amount);
-    match writer_verdict(7, unlawful, crowds(1, c), c, s) {
-        Ok(()) => appended(how, kind, key, amount, c, s, e, left, right, log),
-        Err(a) => steps::refused(a, c, s, e),
-    }
-}
-
-// The same, of many.
-fn extended(
-    how: Search,
-    ops: &[u64],
-    c: Control,
-    s: Slot,
-    e: u64,
-    left: &mut [u64],
-    right: &mut [u64],
-    log: &mut [u64],
-) -> Moved
-    requires { (all_lawful (ops_in ops.now) ≡ true) × (crowds_rule (length (ops_in ops.now)) c ≡ false) }
-    ensures { lent result left.new right.new log.new ≡ appended_rule how c.first (ops_in ops.now) c s e left.old right.old log.old }
-{
-    if c.first {
-        slices::operate_all(how, c.right, ops, left, right);
-        return value(0, c, stirred(s), e);
-    }
-    let n = c.length;
-    slices::enlog_all(log, n, ops);
-    value(
-        0,
-        phases::with_log(n + slices::count(ops), c.swapped, c),
-        s,
-        e,
-    )
+    let part = Part {
+        control: c,
+        slot: s,
+        snapshot: e,
+    };
+    append(how, Operation { kind, key, amount }, part, left, right, log)
 }
 
 // Extend, by how their keys are searched: operations in words, three each, all of them refused or made.
@@ -169,12 +152,12 @@ pub fn extend_by(
 ) -> Moved
     ensures { lent result left.new right.new log.new ≡ append_by how (ops_in ops.now) c s e left.old right.old log.old }
 {
-    let unlawful = !slices::lawful_batch(ops);
-    let full = crowds(slices::count(ops), c);
-    match writer_verdict(7, unlawful, full, c, s) {
-        Ok(()) => extended(how, ops, c, s, e, left, right, log),
-        Err(a) => steps::refused(a, c, s, e),
-    }
+    let part = Part {
+        control: c,
+        slot: s,
+        snapshot: e,
+    };
+    append(how, ops, part, left, right, log)
 }
 
 // ---- publish, try, flush, take
@@ -207,15 +190,26 @@ fn taking(c: Control) -> Phase
 }
 
 #[tactic(auto, unfolding(crate::specs::Begins::opened, read::specs::Machine::slot_count))]
-fn opened(o: Opening, c: Control, s: Slot, e: u64) -> Moved
-    ensures { result ≡ opened_rule o c s e }
+fn opened(o: Opening, part: Part) -> Moved
+    ensures { result ≡ opened_rule o part.control part.slot part.snapshot }
 {
+    let c = part.control;
+    let publish = Part {
+        control: begun(c),
+        ..part
+    };
     match o {
-        Opening::Publish => value(0, begun(c), s, e),
-        Opening::Try => value(0, phases::standing(Phase::Poll(0), Job::Try, c), s, e),
-        Opening::Flush if c.swapped < c.length => value(1, begun(c), s, e),
-        Opening::Flush => value(0, c, s, e),
-        Opening::Take => value(0, phases::standing(taking(c), Job::TakeFirst, c), s, e),
+        Opening::Publish => publish.done(0),
+        Opening::Try => {
+            let control = phases::standing(Phase::Poll(0), Job::Try, c);
+            Part { control, ..part }.done(0)
+        }
+        Opening::Flush if c.swapped < c.length => publish.done(1),
+        Opening::Flush => part.done(0),
+        Opening::Take => {
+            let control = phases::standing(taking(c), Job::TakeFirst, c);
+            Part { control, ..part }.done(0)
+        }
     }
 }
 
@@ -224,8 +218,13 @@ fn opened(o: Opening, c: Control, s: Slot, e: u64) -> Moved
 pub fn open_on(o: Opening, c: Control, s: Slot, e: u64) -> Moved
     ensures { result ≡ open_on o c s e }
 {
+    let part = Part {
+        control: c,
+        slot: s,
+        snapshot: e,
+    };
     match writer_verdict(column_of(o), false, false, c, s) {
-        Ok(()) => opened(o, c, s, e),
-        Err(a) => steps::refused(a, c, s, e),
+        Ok(()) => opened(o, part),
+        Err(a) => part.refused(a),
     }
 }

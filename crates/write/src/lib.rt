@@ -3,6 +3,7 @@
 #![tactic(auto)]
 
 pub mod begins;
+mod operations;
 pub mod phases;
 mod slices;
 pub mod steps;

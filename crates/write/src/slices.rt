@@ -1,5 +1,6 @@
 // The lent words: what a step or an append does to the copy that the pointer does not name, and to the log.
-ghost use Rattle.std.specs.Prelude.{◌≡◌, ◌+◌, ◌<◌, ◌≤◌, true, length, slice_index, slice_set};
+ghost use Rattle.std.specs.Fn.{FnOnceReturnsAtMut};
+ghost use Rattle.std.specs.Prelude.{◌≡◌, false, ◌+◌, ◌<◌, ◌≤◌, true, length, slice_index, slice_set};
 ghost use Rattle.table.specs.Copy.{zeros};
 ghost use Rattle.read.specs.Machine.{log_room};
 ghost use Rattle.read.specs.Handles.{copy_of};
@@ -7,7 +8,7 @@ ghost use Rattle.write.specs.Steps.{of_left, of_right, operated_by, log_applied_
 ghost use Rattle.write.specs.Call.{ops_in};
 ghost use Rattle.write.specs.Begins.{all_lawful, lawful_batch, logged, operated_all_by, logged_all};
 
-use crate::BATCH_ROOM;
+use crate::operations::Operations;
 use read::LOG_ROOM;
 use table::Search;
 
@@ -18,7 +19,7 @@ fn fetch(log: &[u64], i: usize) -> u64
     log.get(i).copied().unwrap_or(0)
 }
 
-// Operation `i` of the log, applied.
+// Operation `i` of the log, applied. Word by word, since a log that is too short may end inside one.
 fn apply_logged(how: Search, w: &mut [u64], log: &[u64], i: usize)
     ensures { w.new ≡ log_applied_by how log.now i w.old }
 {
@@ -39,76 +40,32 @@ fn copy_over(from: &[u64], to: &mut [u64])
     to[..n].copy_from_slice(&from[..n]);
 }
 
-// ---- operations in words, three each
-
-// How many operations there are, one that is cut short too.
-pub(crate) fn count(ops: &[u64]) -> usize
-    ensures { result ≡ length (ops_in ops.now) }
-{
-    ops.len().div_ceil(3)
-}
-
-// Each is whole, and as its kind asks.
-fn all_lawful(ops: &[u64]) -> bool
-    ensures { result ≡ all_lawful (ops_in ops.now) }
-{
-    let (whole, rest) = ops.as_chunks::<3>();
-    for op in whole {
-        let [kind, key, amount] = *op;
-        if !table::lawful(kind, key, amount) {
-            return false;
-        }
-    }
-    rest.is_empty()
-}
-
-pub(crate) fn lawful_batch(ops: &[u64]) -> bool
-    ensures { result ≡ lawful_batch (ops_in ops.now) }
-{
-    count(ops) <= BATCH_ROOM && all_lawful(ops)
-}
-
-// One after the other; a last one that is cut short is none.
-fn apply_all(how: Search, w: &mut [u64], ops: &[u64])
-    requires { all_lawful (ops_in ops.now) ≡ true }
-    ensures { w.new ≡ operated_all_by how (ops_in ops.now) w.old }
-{
-    let (whole, _) = ops.as_chunks::<3>();
-    for op in whole {
-        let [kind, key, amount] = *op;
-        table::apply_by(how, w, kind, key, amount);
-    }
-}
-
 // ---- on the copy that the pointer does not name; `side`: it names the right one
 
-pub(crate) fn operate(
+// `f` on that copy.
+fn aside<F: FnOnce(&mut [u64])>(side: bool, left: &mut [u64], right: &mut [u64], f: F)
+    requires { F.IsAlwaysCallable f }
+    ensures named { side ≡ true → (right.new ≡ right.old) × FnOnceReturnsAtMut F.FnOnce f left.old tt left.new }
+    ensures other { side ≡ false → (left.new ≡ left.old) × FnOnceReturnsAtMut F.FnOnce f right.old tt right.new }
+{
+    if side {
+        f(left);
+    } else {
+        f(right);
+    }
+}
+
+pub(crate) fn operate<B: Operations>(
     how: Search,
     side: bool,
-    kind: u64,
-    key: u64,
-    amount: u64,
+    ops: B,
     left: &mut [u64],
     right: &mut [u64],
 )
-    ensures { (left.new ≡ of_left side (operated_by how kind key amount) left.old) × (right.new ≡ of_right side (operated_by how kind key amount) right.old) }
+    requires { all_lawful (B.listed ops) ≡ true }
+    ensures { (left.new ≡ of_left side (operated_all_by how (B.listed ops)) left.old) × (right.new ≡ of_right side (operated_all_by how (B.listed ops)) right.old) }
 {
-    if side {
-        table::apply_by(how, left, kind, key, amount);
-    } else {
-        table::apply_by(how, right, kind, key, amount);
-    }
-}
-
-pub(crate) fn operate_all(how: Search, side: bool, ops: &[u64], left: &mut [u64], right: &mut [u64])
-    requires { all_lawful (ops_in ops.now) ≡ true }
-    ensures { (left.new ≡ of_left side (operated_all_by how (ops_in ops.now)) left.old) × (right.new ≡ of_right side (operated_all_by how (ops_in ops.now)) right.old) }
-{
-    if side {
-        apply_all(how, left, ops);
-    } else {
-        apply_all(how, right, ops);
-    }
+    aside(side, left, right, |w| ops.apply(how, w));
 }
 
 pub(crate) fn replay(
@@ -121,16 +78,13 @@ pub(crate) fn replay(
 )
     ensures { (left.new ≡ of_left side (log_applied_by how log.now i) left.old) × (right.new ≡ of_right side (log_applied_by how log.now i) right.old) }
 {
-    if side {
-        apply_logged(how, left, log, i);
-    } else {
-        apply_logged(how, right, log, i);
-    }
+    aside(side, left, right, |w| apply_logged(how, w, log, i));
 }
 
 pub(crate) fn synchronize(side: bool, left: &mut [u64], right: &mut [u64])
     ensures { (left.new ≡ of_left side (over (copy_of side left.old right.old)) left.old) × (right.new ≡ of_right side (over (copy_of side left.old right.old)) right.old) }
 {
+    // Not by `aside`: the closure would hold the one copy while the other is lent beside it.
     if side {
         copy_over(&right[..], left);
     } else {
@@ -141,11 +95,7 @@ pub(crate) fn synchronize(side: bool, left: &mut [u64], right: &mut [u64])
 pub(crate) fn erase(side: bool, left: &mut [u64], right: &mut [u64])
     ensures { (left.new ≡ of_left side zeros left.old) × (right.new ≡ of_right side zeros right.old) }
 {
-    if side {
-        table::zero(left);
-    } else {
-        table::zero(right);
-    }
+    aside(side, left, right, |w| table::zero(w));
 }
 
 // ---- on the log
@@ -156,36 +106,5 @@ pub(crate) fn unlog(log: &mut [u64], n: usize)
 {
     if n <= LOG_ROOM {
         table::close_gap(log, 3, 3 * n.saturating_sub(1));
-    }
-}
-
-fn put(log: &mut [u64], i: usize, x: u64)
-    ensures { log.new ≡ slice_set log.old i x }
-{
-    if i < log.len() {
-        log[i] = x;
-    }
-}
-
-// An operation behind `n` others.
-pub(crate) fn enlog(log: &mut [u64], n: usize, kind: u64, key: u64, amount: u64)
-    requires { n < log_room }
-    ensures { log.new ≡ logged n kind key amount log.old }
-{
-    let at = 3 * n;
-    put(log, at, kind);
-    put(log, at + 1, key);
-    put(log, at + 2, amount);
-}
-
-// Operations behind `n` others.
-pub(crate) fn enlog_all(log: &mut [u64], n: usize, ops: &[u64])
-    requires { (n + length (ops_in ops.now) ≤ log_room) × (all_lawful (ops_in ops.now) ≡ true) }
-    ensures { log.new ≡ logged_all n (ops_in ops.now) log.old }
-{
-    let (whole, _) = ops.as_chunks::<3>();
-    for (i, op) in whole.iter().enumerate() {
-        let [kind, key, amount] = *op;
-        enlog(log, n + i, kind, key, amount);
     }
 }

@@ -3,6 +3,7 @@ ghost use Rattle.std.specs.Prelude.{◌≡◌};
 ghost use Rattle.read.specs.Calls.{lent};
 ghost use Rattle.read.specs.Machine.{place as place_rule};
 ghost use Rattle.write.specs.Steps.{at, vacated as vacated_rule, holds as holds_rule, seen as seen_rule, moved as moved_rule, refused as refused_rule, stopped as stopped_rule, poll_move, last_poll_move, step_by};
+ghost use Rattle.write.specs.Begins.{value as value_rule};
 
 use crate::{Moved, phases, slices};
 use read::{Control, Job, Phase, Slot, guards};
@@ -39,66 +40,81 @@ pub fn place(p: Phase) -> usize
     }
 }
 
-pub(crate) fn refused(a: Answer, c: Control, s: Slot, e: u64) -> Moved
-    ensures { result ≡ refused_rule a c s e }
-{
-    Moved {
-        answer: a,
-        value: 0,
-        control: c,
-        slot: s,
-        snapshot: e,
-    }
+// What a step, or a call that is made at once, looks at: the control part, one slot, and the slot's snapshot.
+#[derive(Debug, Clone, Copy, PartialEq, Eq)]
+pub(crate) struct Part {
+    pub(crate) control: Control,
+    pub(crate) slot: Slot,
+    pub(crate) snapshot: u64,
 }
 
-// A step that is made; its value says whether the call ended.
-fn moved(c: Control, s: Slot, e: u64) -> Moved
-    ensures { result ≡ moved_rule c s e }
-{
-    Moved {
-        answer: Answer::Done,
-        value: u64::from(!phases::underway(c)),
-        control: c,
-        slot: s,
-        snapshot: e,
+impl Part {
+    pub(crate) fn refused(self, a: Answer) -> Moved
+        ensures { result ≡ refused_rule a self.control self.slot self.snapshot }
+    {
+        Moved {
+            answer: a,
+            value: 0,
+            control: self.control,
+            slot: self.slot,
+            snapshot: self.snapshot,
+        }
     }
-}
 
-fn moved_to(p: Phase, c: Control, s: Slot, e: u64) -> Moved
-    ensures { result ≡ moved_rule (at p c) s e }
-{
-    moved(phases::at(p, c), s, e)
-}
-
-// A poll that does not pass is held, and changes nothing; that of a try declines, and ends the call.
-pub(crate) fn stopped(c: Control, s: Slot, e: u64) -> Moved
-    ensures { result ≡ stopped_rule c.job c s e }
-{
-    match c.job {
-        Job::Try => Moved {
-            value: 1,
-            ..refused(Answer::Declined, phases::at(Phase::Idle, c), s, e)
-        },
-        _ => refused(Answer::Held, c, s, e),
+    // A call that is made at once, with its value.
+    pub(crate) fn done(self, value: u64) -> Moved
+        ensures { result ≡ value_rule value self.control self.slot self.snapshot }
+    {
+        Moved {
+            value,
+            ..self.refused(Answer::Done)
+        }
     }
-}
 
-fn poll(k: usize, c: Control, s: Slot, e: u64) -> Moved
-    ensures { result ≡ poll_move (holds_rule s e) k c s e }
-{
-    if holds(s, e) {
-        return stopped(c, s, e);
+    // A step that is made; its value says whether the call ended.
+    fn moved(self) -> Moved
+        ensures { result ≡ moved_rule self.control self.slot self.snapshot }
+    {
+        self.done(u64::from(!phases::underway(self.control)))
     }
-    moved_to(phases::passed(c, k), c, s, e)
-}
 
-fn last_poll(k: usize, c: Control, s: Slot, e: u64) -> Moved
-    ensures { result ≡ last_poll_move (holds_rule s e) k c s e }
-{
-    if holds(s, e) {
-        return refused(Answer::Held, c, s, e);
+    fn moved_to(self, p: Phase) -> Moved
+        ensures { result ≡ moved_rule (at p self.control) self.slot self.snapshot }
+    {
+        let control = phases::at(p, self.control);
+        Part { control, ..self }.moved()
     }
-    moved_to(phases::last_passed(k), c, s, e)
+
+    // A poll that does not pass is held, and changes nothing; that of a try declines, and ends the call.
+    fn stopped(self) -> Moved
+        ensures { result ≡ stopped_rule self.control.job self.control self.slot self.snapshot }
+    {
+        match self.control.job {
+            Job::Try => Moved {
+                answer: Answer::Declined,
+                ..self.moved_to(Phase::Idle)
+            },
+            _ => self.refused(Answer::Held),
+        }
+    }
+
+    fn poll(self, k: usize) -> Moved
+        ensures { result ≡ poll_move (holds_rule self.slot self.snapshot) k self.control self.slot self.snapshot }
+    {
+        if holds(self.slot, self.snapshot) {
+            return self.stopped();
+        }
+        self.moved_to(phases::passed(self.control, k))
+    }
+
+    fn last_poll(self, k: usize) -> Moved
+        ensures { result ≡ last_poll_move (holds_rule self.slot self.snapshot) k self.control self.slot self.snapshot }
+    {
+        if holds(self.slot, self.snapshot) {
+            return self.refused(Answer::Held);
+        }
+        self.moved_to(phases::last_passed(k))
+    }
 }
 
 // One step, by how the key of an operation is searched.
@@ -114,39 +130,66 @@ pub fn advance_by(
 ) -> Moved
     ensures { lent result left.new right.new log.new ≡ step_by how c.phase c s e left.old right.old log.old }
 {
+    let part = Part {
+        control: c,
+        slot: s,
+        snapshot: e,
+    };
     match c.phase {
-        Phase::Idle => refused(Answer::NotNow, c, s, e),
-        Phase::Begin => moved_to(phases::beginning(c), c, s, e),
-        Phase::Poll(k) => poll(k, c, s, e),
+        Phase::Idle => part.refused(Answer::NotNow),
+        Phase::Begin => part.moved_to(phases::beginning(c)),
+        Phase::Poll(k) => part.poll(k),
         Phase::Copy => {
             slices::synchronize(c.right, left, right);
-            moved_to(
-                phases::draining(c.swapped, c.length),
-                phases::copied(c),
-                s,
-                e,
-            )
+            let control = phases::copied(c);
+            Part { control, ..part }.moved_to(phases::draining(c.swapped, c.length))
         }
         Phase::Drain => {
             slices::replay(how, c.right, 0, left, right, &log[..]);
             slices::unlog(log, c.length);
-            moved(phases::drained(c), s, e)
+            let control = phases::drained(c);
+            Part { control, ..part }.moved()
         }
         Phase::Keep(k) => {
             slices::replay(how, c.right, k, left, right, &log[..]);
-            moved_to(phases::kept(c.length, k), c, s, e)
+            part.moved_to(phases::kept(c.length, k))
         }
-        Phase::Swap => moved_to(Phase::Snap(0), phases::swapped_over(c), s, e),
-        Phase::Snap(k) => moved(phases::after_snap(c, k), s, seen(s, e)),
-        Phase::Null => moved_to(Phase::Lock, phases::nulled(c), s, e),
-        Phase::Lock => moved_to(Phase::LastSnap(0), c, s, e),
-        Phase::LastSnap(k) => moved_to(phases::last_seen(k), c, s, seen(s, e)),
-        Phase::LastPoll(k) => last_poll(k, c, s, e),
+        Phase::Swap => {
+            let control = phases::swapped_over(c);
+            Part { control, ..part }.moved_to(Phase::Snap(0))
+        }
+        Phase::Snap(k) => {
+            let control = phases::after_snap(c, k);
+            let snapshot = seen(s, e);
+            Part {
+                control,
+                snapshot,
+                ..part
+            }
+            .moved()
+        }
+        Phase::Null => {
+            let control = phases::nulled(c);
+            Part { control, ..part }.moved_to(Phase::Lock)
+        }
+        Phase::Lock => part.moved_to(Phase::LastSnap(0)),
+        Phase::LastSnap(k) => {
+            let snapshot = seen(s, e);
+            Part { snapshot, ..part }.moved_to(phases::last_seen(k))
+        }
+        Phase::LastPoll(k) => part.last_poll(k),
         Phase::Finish => {
             slices::erase(c.right, left, right);
             table::zero(log);
-            moved_to(Phase::Gone, phases::finished(s, c), vacated(c.free, s), e)
+            let control = phases::finished(s, c);
+            let slot = vacated(c.free, s);
+            Part {
+                control,
+                slot,
+                ..part
+            }
+            .moved_to(Phase::Gone)
         }
-        Phase::Gone => refused(Answer::Gone, c, s, e),
+        Phase::Gone => part.refused(Answer::Gone),
     }
 }

@@ -2,7 +2,7 @@
 use Rattle.std.proofs.Common.{◌≡◌, drop}
 use Rattle.write.specs.Begins.{all_lawful}
 use Rattle.write.proofs.Ops.{made}
-use Rattle.write.proofs.slices.all_lawful.Given as goal
+use Rattle.write.proofs.operations.all_lawful.Given as goal
 
 abbrev pub invariant-loop-op : goal.invariant-loop-op
 invariant-loop-op l = all_lawful (made (drop l.op-index l.whole)) ≡ all_lawful (made l.whole)
