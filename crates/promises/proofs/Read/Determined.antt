@@ -32,7 +32,13 @@ use Rattle.machine.proofs.look_up.Reads as look_up
 use Rattle.machine.proofs.was_dropped.Reads as was_dropped
 use Rattle.machine.proofs.view.Reads as view
 use Rattle.machine.proofs.pair.Reads as pair
-use Rattle.promises.proofs.Contracts.{Determines, DeterminesWords}
+use mathlib.Core.Bool.{Bool}
+use mathlib.Core.List.{List, ◌∷◌}
+use Rattle.table.specs.declared.Answer.{Answer}
+use Rattle.table.specs.declared.Search.TheVariants.{Walk}
+use Rattle.read.specs.declared.Sign.{Sign}
+use Rattle.read.specs.Handles.{sign as signed}
+use Rattle.promises.proofs.Contracts.{ref, Determines, DeterminesWords}
 
 fresh_state_determined : Determines fresh_state.Post
 fresh_state_determined κs a r q s t h l = h ∙ sym l
@@ -94,6 +100,12 @@ sign_determined κs a r q s t h l = h ∙ sym l
 smallest_determined : Determines smallest.Post
 smallest_determined κs a r q s t h l = h ∙ sym l
 
+-- a sign before others
+given_determined :
+    (κs : _) (b : Bool) (a : Answer) (xs : List Sign) (r q : _) (s t : _) →
+    smallest.Post κs (ref (signed a b ∷ xs), tt) r s → smallest.Post κs (ref (signed a b ∷ xs), tt) q t → r ≡ q
+given_determined κs b a xs = smallest_determined κs (ref (signed a b ∷ xs), tt)
+
 locks_determined : Determines locks.Post
 locks_determined κs a r q s t h l = h ∙ sym l
 
@@ -124,6 +136,11 @@ go_on_determined κs a r q s t h l = h ∙ sym l
 
 handles_handle_by_determined : Determines handles_handle_by.Post
 handles_handle_by_determined κs a r q s t h l = h ∙ sym l
+
+-- in any words
+handles_handle_determined :
+    (κs : _) (a : _) (r q : _) (s t : _) → handles_handle_by.Post κs (Walk, a) r s → handles_handle_by.Post κs (Walk, a) q t → r ≡ q
+handles_handle_determined κs a = handles_handle_by_determined κs (Walk, a)
 
 handles_create_determined : Determines handles_create.Post
 handles_create_determined κs a r q s t h l = h ∙ sym l
