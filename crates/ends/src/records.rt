@@ -7,7 +7,7 @@ use tell::{say, value, word};
 
 // ---- the control part
 
-// The jobs in the order of their numbers.
+// The jobs in the order of the numbers that the text has for them.
 const JOBS: [Job; 4] = [Job::Publish, Job::Try, Job::TakeFirst, Job::TakeSecond];
 
 // How many stand before it.

@@ -1,4 +1,5 @@
-// A release that changes a handle's own record in place. `release` and `leave` are thin: the work is done by value, beneath them.
+// A release that changes a handle's own record in place. `release` and `leave` are thin: the work is done by value, beneath them. They
+// stay two: one changes the record where it stands, and one lends it and hands it back.
 #![tactic(auto)]
 
 ghost use Rattle.std.specs.Prelude.{◌≡◌};

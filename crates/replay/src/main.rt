@@ -111,6 +111,7 @@ fn replayed(to: Stdout, number: usize, history: History<'_>) -> bool {
     judge(to, number, played, &out, history.recorded)
 }
 
+// A history says how long it is, so that no iterator of std walks the sample.
 fn replay(to: Stdout, sample: &[u8]) {
     let mut rest = sample;
     let mut histories: usize = 0;

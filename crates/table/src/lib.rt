@@ -306,6 +306,7 @@ pub fn close_gap(part: &mut [u64], g: usize, m: usize)
     zero(&mut part[m..m + g]);
 }
 
+// `Fit` stands at the three functions that write the words, and in no type: a type would lend them, as `Pairs` does.
 fn add_in(how: Search, w: &mut [u64], key: u64, amount: u64)
     requires { Fit w.old }
     ensures { w.new ≡ added_by how key amount w.old }
@@ -367,7 +368,7 @@ pub fn apply_by(how: Search, w: &mut [u64], kind: u64, key: u64, amount: u64) ->
 }
 
 // An operation on a copy: refused with nothing changed, or made. It stays beside `apply_by` as what README and docs name: a walk, which
-// asks for no order.
+// asks for no order. Its kind is a number, since words come from anyone, and each number has an answer.
 pub fn apply(w: &mut [u64], kind: u64, key: u64, amount: u64) -> Answer
     ensures { record { answer = result; copy = w.new } ≡ apply_rule kind key amount w.old }
 {

@@ -1,5 +1,6 @@
 // The writer's side of the machine: append, publish, try, flush, take, and the steps that carry them out, on the control part and the
-// one slot that each looks at.
+// one slot that each looks at. The copies and the log come one by one, as they are lent: of a struct of three `&mut` each contract would
+// have to say besides that it holds the same three still.
 #![tactic(auto)]
 
 pub mod begins;
