@@ -1,3 +1,4 @@
 -- The laws of the calls on the whole machine.
 pub mod Callings
 pub mod Inner
+pub mod Logged

@@ -47,8 +47,10 @@ fn first_unlawful(n: usize, log: &[u64]) -> usize
     requires { 3 * n ≤ length log.now }
     ensures { result ≡ first_unlawful n log.now }
 {
-    for i in 0..n {
-        if !table::lawful(log[3 * i], log[3 * i + 1], log[3 * i + 2]) {
+    let (ops, _) = log.as_chunks::<3>();
+    for (i, op) in ops[..n].iter().enumerate() {
+        let [kind, key, amount] = *op;
+        if !table::lawful(kind, key, amount) {
             return i;
         }
     }

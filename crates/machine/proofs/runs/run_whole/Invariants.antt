@@ -1,4 +1,4 @@
--- Before each turn of the steps the run goes on from here to what it is to give; before each turn of the slot scan it stands in the
+-- Before each turn of the steps the run goes on from here to what it is to give; before each turn of the slot scan it stands in the scan.
 use Rattle.write.specs.Runs.{run_on}
 use Rattle.write.proofs.Count.{left as left_of}
 use Rattle.write.proofs.Turns.{Running, Scanned}
