@@ -139,7 +139,7 @@ fn part<'a>(line: &[u8], state: State, lent: &'a Lent<'_>) -> Option<&'a [u64]> 
 fn show(to: Stdout, line: &[u8], state: State, lent: Lent<'_>) {
     if let Some(words) = part(line, state, &lent) {
         say(to, format_args!(" -> {}", words.len()));
-        say_words(to, " words", &[], words);
+        say_words(to, b" words", &[], words);
     }
     let Lent { left, right, .. } = lent;
     if let b"apart" = word(line, 0) {
@@ -212,9 +212,9 @@ impl World {
         let answer = u8::from(reply.answer);
         say(to, format_args!(" -> {answer} {}", reply.value));
         records::say_state(to, &before.state, &self.state);
-        say_words(to, ", left", &before.left, &self.left);
-        say_words(to, ", right", &before.right, &self.right);
-        say_words(to, ", log", &before.log, &self.log);
+        say_words(to, b", left", &before.left, &self.left);
+        say_words(to, b", right", &before.right, &self.right);
+        say_words(to, b", log", &before.log, &self.log);
     }
 
     // A line, and what it led to.

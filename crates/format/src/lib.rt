@@ -3,7 +3,7 @@
 
 ghost use Rattle.std.specs.Prelude.{◌≡◌, ◌+◌, ◌≤◌, ◌<◌, ◌==◌, slice_index, length, drop};
 ghost use Rattle.std.specs.List.{list_all, range_with_len};
-ghost use Rattle.format.specs.Schedule.{head_bytes, record_bytes, count as count_rule, start_of, marked as marked_rule, version_of, fields_at, members_in, bad_at, fault_number, flaw as flaw_rule, flaw_in, flaw_of};
+ghost use Rattle.format.specs.Schedule.{head_bytes, record_bytes, count as count_rule, start_of, fields_at, members_in, bad_at, fault_number, flaw_in, flaw_of};
 ghost use Rattle.format.specs.Transcript.{put_rule};
 
 // How many bytes there are before the records, in one, and in a record's entry.
@@ -162,7 +162,7 @@ fn check_records(s: &[u8]) -> Result<usize, Flaw>
     let end = HEAD + RECORD * n;
     let mut inside = 0;
     let mut at = HEAD;
-    // An index: a batch takes the records behind it along, which no iterator of std does.
+    // By index: what is bad is judged by its place, with the records behind it; those of a batch are then passed at once.
     while at < end {
         let call = s[at];
         if call < 1 || BATCH <= call {

@@ -27,6 +27,7 @@ const SLOT: usize = 1;
 
 const GUARD: usize = 0;
 
+// The kind of an ADD, a number as `machine::append` takes it.
 const ADD: u64 = 1;
 
 // ---- the machine

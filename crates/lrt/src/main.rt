@@ -9,6 +9,7 @@ use std::process::ExitCode;
 // The status of a program that the system stopped at a pipe that nobody reads any more: 128 and the signal's number.
 const CLOSED: u8 = 141;
 
+// What C gets is played here too, so that the program shows what the library answers; the place of what is wrong is looked for once more.
 fn run(rt: &HostRuntime, schedule: &[u8], out: &mut [u8; TRANSCRIPT]) -> io::Result<()> {
     let played = play::lrt_play(schedule, out);
     if played.answer == 0 {
@@ -16,6 +17,7 @@ fn run(rt: &HostRuntime, schedule: &[u8], out: &mut [u8; TRANSCRIPT]) -> io::Res
         page::write(rt, schedule, &out[..played.written.min(TRANSCRIPT)])
     } else {
         let place = match format::check(schedule) {
+            // That there is too little room is found at the end.
             Ok(_) => format::count(schedule),
             Err(flaw) => flaw.place,
         };

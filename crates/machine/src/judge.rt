@@ -1,6 +1,6 @@
 // What every call is judged on: lengths, entry counts, the control part, the log, and the order of the free slots.
 ghost use Rattle.std.specs.Prelude.{◌≡◌, ◌&&◌, ◌≤◌, ◌*◌, length};
-ghost use Rattle.read.specs.Machine.{same as same_rule, nulls as nulls_rule, in_range, first_unlawful, sized as sized_rule, whole_control, glanced, judged};
+ghost use Rattle.read.specs.Machine.{nulls as nulls_rule, in_range, first_unlawful, sized as sized_rule, whole_control, glanced, judged};
 
 use read::admission::locks;
 use read::{Control, LOG_ROOM, LOG_WORDS, Phase, SLOTS, State, Verdict, order};
@@ -42,7 +42,7 @@ fn whole_control(c: Control) -> bool
         && c.null == nulls(c.phase)
 }
 
-// The first of `n` logged operations that is not as its kind asks, or `n`.
+// The first of `n` logged operations that is not as its kind asks, or `n`, and no Option: the rule compares the two.
 fn first_unlawful(n: usize, log: &[u64]) -> usize
     requires { 3 * n ≤ length log.now }
     ensures { result ≡ first_unlawful n log.now }

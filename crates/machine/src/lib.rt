@@ -1,5 +1,6 @@
 // The calls on the machine: each is given the whole state and all three lent slices, trusts none of them, and is refused with
-// nothing changed, or made. `read` and `write` have the parts, for whoever holds a state that is known to be whole.
+// nothing changed, or made. The slices come one by one, as README says, and `write` says why. `read` and `write` have the parts, for
+// whoever holds a state that is known to be whole.
 #![tactic(auto)]
 
 mod judge;

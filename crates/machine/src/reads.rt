@@ -6,7 +6,7 @@ use crate::{judge, refusal, replied};
 use read::{Control, Handle, Made, Reply, SLOTS, State, handles, slot_at};
 use table::{Answer, Search};
 
-// The whole copy that a guard stands on, or a part of no words, on a state that is whole.
+// The whole copy that a guard stands on, or no words, and no Option: of none `used` and `look_up` show none. On a state that is whole.
 #[tactic(auto, unfolding(read::specs::Machine::slot_count))]
 fn through_guard<'a>(
     st: State,
@@ -18,11 +18,11 @@ fn through_guard<'a>(
     ensures { result.now ≡ through_guard slot guard left.now right.now st }
 {
     if SLOTS <= slot {
-        return &left[0..0];
+        return &[];
     }
     let s = slot_at(st, slot);
     match handles::verdict(st.control, slot == 0, s, Handle::LookUp(guard, 0)) {
-        Err(_) => &left[0..0],
+        Err(_) => &[],
         Ok(()) => handles::guarded_copy(s.guards, guard, left, right),
     }
 }
@@ -40,7 +40,7 @@ pub(crate) fn through<'a>(
     ensures { result.now ≡ through_rule slot guard left.now right.now log.now st }
 {
     match judge::judge(st, left, right, log) {
-        Err(_) => &left[0..0],
+        Err(_) => &[],
         Ok(()) => through_guard(st, slot, guard, left, right),
     }
 }
@@ -68,8 +68,8 @@ fn handle_reply<'a>(st: State, slot: usize, h: Handle, left: &'a [u64], right: &
     if SLOTS <= slot {
         return refusal(Answer::NoSlot, st);
     }
-    let own = slot_at(st, slot);
-    let m = handles::handle_by(Search::Walk, st.control, slot, own, h, left, right);
+    let s = slot_at(st, slot);
+    let m = handles::handle_by(Search::Walk, st.control, slot, s, h, left, right);
     reply_of(slot, m, st)
 }
 

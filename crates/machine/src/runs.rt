@@ -1,4 +1,4 @@
-// A step and a run, on a state whose control part is whole.
+// A step and a run, on a state whose control part is whole, which is asked of each: a type of it would be made anew behind each step.
 ghost use Rattle.std.specs.Prelude.{◌≡◌, true, ◌<◌};
 ghost use Rattle.read.specs.Machine.{slot_total, whole_control, place as place_rule};
 ghost use Rattle.read.specs.Calls.{lent};

@@ -33,7 +33,7 @@ pub(crate) fn begin(o: Opening, st: State, left: &[u64], right: &[u64], log: &[u
     put_back(0, st, m)
 }
 
-// What speaks against a step, in column 12 of the table of admissions, or a run, in 13.
+// What speaks against a step or a run, by its column in the table of admissions.
 pub(crate) fn admit(column: usize, st: State, left: &[u64], right: &[u64], log: &[u64]) -> Verdict
     ensures { result ≡ going_verdict column st left.now right.now log.now }
 {

@@ -8,7 +8,7 @@ pub(crate) const PATH: usize = 4096;
 // The longest command has as many bytes.
 const WORD: usize = 4;
 
-#[derive(Clone, Copy, PartialEq, Eq)]
+#[derive(Clone, Copy)]
 pub(crate) enum Command {
     Play,
     Show,

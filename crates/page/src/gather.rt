@@ -1,5 +1,5 @@
 // Text that is gathered in a page from its start on. What does not fit is left out. The page is fixed memory: a `BufWriter` would want
-// room on the heap, and can fail.
+// room on the heap, and can fail; the string of the kit's `arrayvec` takes a text whole or not at all.
 ghost use Rattle.page.specs.Page.{OnPage};
 
 use std::fmt::{Display, Write};

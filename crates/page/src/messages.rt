@@ -35,13 +35,14 @@ impl From<FillError> for Problem {
     }
 }
 
-// What refuses a file, by its number, which may be any and is printed, and at which record.
+// What refuses a file, and at which record: by its number, since `refuse` takes any.
 #[derive(Clone, Copy)]
 pub(crate) struct Refusal {
     pub answer: u64,
     pub place: usize,
 }
 
+// No `Fault` of `format`: any number may be told, and one that is no fault's is told as the last.
 #[derive(Clone, Copy)]
 enum Reason {
     Mark,

@@ -1,10 +1,10 @@
 // A schedule's records and what came of them, one to a line.
 use crate::gather::Page;
-use format::{BATCH, ENTRY, Fields, HEAD, RECORD};
+use format::{ENTRY, Fields, HEAD, RECORD};
 use std::fmt::{Display, Formatter};
 use std::{fmt, io};
 
-// The answers' names, by their numbers.
+// The answers' names, by the number in the file, which may be none of them.
 const ANSWERS: [&str; 16] = [
     "done",
     "length",
@@ -52,17 +52,6 @@ impl From<&[u8; RECORD]> for Call {
     }
 }
 
-impl Call {
-    // How many of the records behind this one belong to it.
-    fn members(&self) -> u64 {
-        if self.0.call == u64::from(BATCH) {
-            self.0.amount
-        } else {
-            0
-        }
-    }
-}
-
 impl Display for Call {
     fn fmt<W: fmt::Write>(&self, f: &mut Formatter<W>) -> fmt::Result {
         let Fields {
@@ -106,11 +95,9 @@ struct Entry {
 
 impl From<&[u8; ENTRY]> for Entry {
     fn from(bytes: &[u8; ENTRY]) -> Entry {
-        let mut value = [0; 8];
-        value.copy_from_slice(&bytes[1..]);
         Entry {
             answer: bytes[0],
-            value: u64::from_le_bytes(value),
+            value: u64::from_le_bytes(*bytes[1..].first_chunk().unwrap()),
         }
     }
 }
@@ -145,7 +132,7 @@ pub(crate) fn all<P: Print>(to: &P, schedule: &[u8], transcript: &[u8]) -> io::R
             left -= 1;
         } else {
             line(&mut page, i + 1, call, entries.next().unwrap_or_default());
-            left = call.members();
+            left = call.0.members();
         }
         if page.is_full() {
             page.flush(to)?;

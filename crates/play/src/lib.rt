@@ -1,4 +1,5 @@
-// The player: a schedule of calls in, the transcript of their answers out. The machine's memory is its own.
+// The player: a schedule of calls in, the transcript of their answers out. The machine's memory is its own: two copies and a log, which
+// go one by one to the calls of `write`.
 #![tactic(auto)]
 
 mod schedule;
@@ -33,9 +34,9 @@ pub(crate) struct Reached {
     pub written: usize,
 }
 
-// Plays the whole records of a part, which has no head, on a machine that is whole and whose copies rise. A turn of the loop is a record, and looks at one
-// slot, which is copied out and in; a run's steps are turns of their own, and a batch has its records in one. Only a step changes a
-// snapshot.
+// Plays the whole records of a part, which has no head, on a machine that is whole and whose copies rise. A turn of the loop is a record,
+// and looks at one slot, which is copied out and in; a run's steps are turns of their own, and a batch has its records in one. Only a step
+// changes a snapshot. By index: how far it came is handed back, a batch takes the records behind it along, and `put` takes a place.
 fn play_on(
     st: State,
     s: &[u8],

@@ -1,4 +1,5 @@
-// What the records of a schedule mean.
+// What the records of a schedule mean. A record is named by its file and the byte where it begins, as the rules name it: those of a batch
+// stand behind it.
 ghost use Rattle.std.specs.Prelude.{◌≡◌, List, suc, ◌+◌, ◌*◌, ◌≤◌, length, take};
 ghost use Rattle.table.specs.Order.{Op};
 ghost use Rattle.write.specs.Call.{ops_in};
@@ -103,7 +104,7 @@ pub(crate) fn gather(s: &[u8], at: usize, n: usize, ops: &mut [u64])
     requires { (at ≤ length s.now) × (n ≤ suc batch_room) × (3 * n ≤ length ops.old) }
     ensures { ops_in (take (3 * n) ops.new) ≡ ops_from s.now at n }
 {
-    // An index: the last record may be cut short, which no iterator of std gives.
+    // By index: a record past the end counts too, as zeros, and std's chunks end there.
     for i in 0..n {
         let f = format::fields_at(s, at + RECORD * i);
         ops[3 * i] = f.kind;

@@ -1,12 +1,12 @@
 // The turns of the player's loop, each on the one slot that it looks at, which is copied out and in. Step and run are made step by
-// step; every other call takes one turn. The copies are known to rise, so that keys are found by halving.
+// step; every other call takes one turn. The copies are known to rise, so that keys are found by halving: each contract says so, as they are
+// lent on to be changed. They, the control part and the slot come one by one, as `write` takes them.
 ghost use Rattle.std.specs.Prelude.{◌≡◌, ◌+◌, ◌≤◌, ◌<◌, ◌^◌, length};
 ghost use Rattle.table.specs.Order.{Tidy};
 ghost use Rattle.format.specs.Schedule.{record_bytes};
 ghost use Rattle.write.specs.Begins.{append_on};
 ghost use Rattle.play.specs.Schedule.{ops_from};
 ghost use Rattle.read.specs.Calls.{lent};
-ghost use Rattle.write.specs.Steps.{holds};
 ghost use Rattle.play.specs.Turns.{meant_at, is_running, moved_as, moved_by, touched, turn_on, halt as halt_rule, halt_of, facing as facing_rule, ran_on, went_on};
 
 use crate::schedule;

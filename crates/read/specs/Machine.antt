@@ -203,7 +203,7 @@ whole_control c =
     && (nat_le c.swapped c.length
     && (in_range c c.phase && (same c.lock (locks c.phase) && same c.null (nulls c.phase))))
 
--- what is said of a call: admitted, Ok, or what refuses it
+-- what a call is judged to be: admitted (Ok), or refused with an answer (Err)
 abbrev pub Verdict : Type 0
 Verdict = Result ⊤ Answer
 

@@ -52,7 +52,8 @@ pub fn row(p: Phase) -> usize
     }
 }
 
-// The entry; a column past the last one is as the last one.
+// The entry; a column past the last one is as the last one. A column is a number: no one enum has the calls of this crate and of those
+// above.
 pub fn entry(p: Phase, column: usize) -> u8
     ensures { result ≡ entry_rule p column }
 {
@@ -63,7 +64,7 @@ pub fn entry(p: Phase, column: usize) -> u8
     (digits % 8) as u8
 }
 
-// A call on a handle by its number in a schedule, which is a place in the table.
+// A call on a handle by its number in a schedule, from which its column is counted.
 fn number(h: Handle) -> usize
     ensures { (result ≡ handle_number h) × (2 ≤ result) × (result < 8) }
 {

@@ -1,13 +1,13 @@
 // A slot and its guards, by value: what read/guard.rs does to a handle's own record.
 ghost use Rattle.std.specs.Prelude.{◌≡◌};
-ghost use Rattle.read.specs.Machine.{shut as shut_rule, open_on, is_open, put_guard, first_guard, any_open, all_open, is_due, is_load, no_slot, with_reading, new_slot, no_guards};
+ghost use Rattle.read.specs.Machine.{is_open, put_guard, first_guard, any_open, all_open, is_due, is_load, no_slot, with_reading, new_slot};
 ghost use Rattle.read.specs.Handles.{made_of, with_due, freed as freed_rule, guarded as guarded_rule, loaded as loaded_rule, entered as entered_rule, went_on, released as released_rule};
 
 use crate::{Control, Due, GUARDS, Guard, Made, Slot};
 use table::Answer;
 
-// The first guard that is open, or that is shut, by what is wanted; their number where there is none, and no Option: a load
-// that finds four open, which is refused before, would answer four.
+// The first guard that is open, or that is shut, by what is wanted; their number where there is none, and no Option: the rule of a load
+// hands it on as a value.
 pub(crate) fn first_guard(want: bool, g: [Guard; GUARDS]) -> usize
     ensures { result ≡ first_guard want g }
 {

@@ -1,5 +1,5 @@
 // A call on a handle, on the control part and the handle's own slot; and create, on the slot that is first.
-ghost use Rattle.std.specs.Prelude.{◌≡◌, not, ◌&&◌, slice_index};
+ghost use Rattle.std.specs.Prelude.{◌≡◌, slice_index};
 ghost use Rattle.read.specs.Admission.{handle_number, guard_named};
 ghost use Rattle.table.specs.Copy.{look_by};
 ghost use Rattle.read.specs.Handles.{mistimed as mistimed_rule, leaves_guards, lacks_guard, lacks_room, sign, smallest as smallest_rule, handle_signs, guarded_copy, handled_by, handle_by, create_signs, create_on};

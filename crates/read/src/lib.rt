@@ -1,6 +1,7 @@
 // The reader's side: the state, handles with their epochs and guards, and what a guard shows.
 // A call stands on the control part and one slot, by value, for whoever holds a state that is known to be whole; `machine` has the calls
-// that are given a whole state. The two copies come one by one, as a caller lends them: a struct would be made and taken apart at each call.
+// that are given a whole state. The two copies come one by one, as a caller lends them: a struct would be made and taken apart at each call;
+// so do the control part and the slot, of which a call reads the one and makes the other anew.
 #![tactic(auto)]
 
 pub mod admission;
@@ -81,7 +82,8 @@ pub enum Phase {
 
 // The pointer names the copy `right`, or named it before null. The log holds `length` operations, of which the first `swapped`
 // already stand in the copy that is read. The slot `free` is handed out next, and then the one that comes behind it. Of the
-// orders of these fields that were tried, this one costs the player's appends and publishes least.
+// orders of these fields that were tried, this one costs the player's appends and publishes least. Where no slot is free, `free` is their
+// number, and no Option: that comes behind the last slot as any next number does.
 #[derive(Debug, Clone, Copy, PartialEq, Eq)]
 pub struct Control {
     pub phase: Phase,
@@ -96,6 +98,7 @@ pub struct Control {
     pub free: usize,
 }
 
+// The snapshots stand beside the slots: they are the writer's, and no part of a handle's own record.
 #[derive(Debug, Clone, Copy, PartialEq, Eq)]
 pub struct State {
     pub control: Control,
@@ -114,7 +117,7 @@ pub enum Handle {
     WasDropped,
 }
 
-// What speaks against a call: a refusal, and whether it applies.
+// What speaks against a call: a refusal, and whether it applies. No Option: the rules have a list of signs, those that do not apply too.
 #[derive(Debug, Clone, Copy, PartialEq, Eq)]
 pub struct Sign {
     pub answer: Answer,
@@ -124,7 +127,7 @@ pub struct Sign {
 // What a call is judged to be: admitted, or refused with an answer.
 pub type Verdict = Result<(), Answer>;
 
-// What create or a call on a handle makes of its slot, and which one is handed out next.
+// What create or a call on a handle makes of its slot, and which one is handed out next. No Result: a refusal too says what the slot is.
 #[derive(Debug, Clone, Copy, PartialEq, Eq)]
 pub struct Made {
     pub answer: Answer,
@@ -133,6 +136,7 @@ pub struct Made {
     pub free: usize,
 }
 
+// No Result: a refusal too hands back the state, and a run that is held has a value.
 #[derive(Debug, Clone, Copy, PartialEq, Eq)]
 pub struct Reply {
     pub answer: Answer,

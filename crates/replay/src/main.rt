@@ -14,6 +14,7 @@ use tell::{ROOM, is_blank, number, put, say, value};
 
 const OUTPUT: usize = 32768;
 
+// An entry's bytes, as README has them: nothing of `format` is used here.
 const ENTRY: usize = 9;
 
 // The longest schedule of those that are refused: two records.
@@ -54,12 +55,8 @@ fn first_history(sample: &[u8]) -> Option<(History<'_>, &[u8])>
 fn say_entry(to: Stdout, name: &str, entries: &[u8], i: usize) {
     let (entries, _) = entries.as_chunks::<ENTRY>();
     if let Some(entry) = entries.get(i) {
-        let mut value = [0; 8];
-        value.copy_from_slice(&entry[1..]);
-        say(
-            to,
-            format_args!("{name}{} {}", entry[0], u64::from_le_bytes(value)),
-        );
+        let value = u64::from_le_bytes(*entry[1..].first_chunk().unwrap());
+        say(to, format_args!("{name}{} {value}", entry[0]));
     }
 }
 
@@ -111,7 +108,7 @@ fn replayed(to: Stdout, number: usize, history: History<'_>) -> bool {
     judge(to, number, played, &out, history.recorded)
 }
 
-// A history says how long it is, so that no iterator of std walks the sample.
+// A loop: where the sample is cut short, and at the first difference, it ends with a line.
 fn replay(to: Stdout, sample: &[u8]) {
     let mut rest = sample;
     let mut histories: usize = 0;

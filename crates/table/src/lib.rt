@@ -5,7 +5,7 @@ ghost use Rattle.std.specs.Prelude.{◌≡◌, true, false, ◌+◌, ◌*◌, �
 ghost use Rattle.table.specs.Answers.{number as number_rule, outcome, answer_of};
 ghost use Rattle.table.specs.Operation.{operation_of, made_by};
 ghost use Rattle.table.specs.declared.Search.TheVariants.{Halve};
-ghost use Rattle.table.specs.Copy.{entries, pairs, words, key_at, passes as passes_rule, first as first_rule, first_from, halved as halved_rule, find_by, place_by, opened, close_rule, zeros, added_by, dropped_by, lawful as lawful_rule, fitness, fits, used_of, Fit, Holds, apply_by, apply_rule, look_by, look_rule, used_rule};
+ghost use Rattle.table.specs.Copy.{entries, words, key_at, passes as passes_rule, first as first_rule, first_from, halved as halved_rule, find_by, place_by, opened, close_rule, zeros, added_by, dropped_by, lawful as lawful_rule, fitness, fits, used_of, Fit, Holds, apply_by, apply_rule, look_by, look_rule, used_rule};
 ghost use Rattle.table.specs.Find.{Found, Missing};
 ghost use Rattle.table.specs.Order.{Rising};
 ghost use Rattle.table.specs.Many.{is_view, filled, told, told_all, Ready, look_all_rule};
@@ -21,6 +21,7 @@ const MOST: u64 = PAIRS as u64;
 // How many pairs a walk passes in a turn.
 const TURN: usize = 4;
 
+// What a call answers. `Done` is one of them, and no Result: the rules have one answer for each call, and a transcript one number.
 #[derive(Debug, Clone, Copy, PartialEq, Eq)]
 pub enum Answer {
     Done,
@@ -80,7 +81,7 @@ pub fn fit(w: &[u64]) -> Result<(), Answer>
 }
 
 impl Operation {
-    // By its kind, which asks for the key and the amount that it has.
+    // By its kind, which asks for the key and the amount that it has. No TryFrom: the three words stand in no type of their own.
     #[tactic(auto, unfolding(crate::specs::Operation::operation_of, crate::specs::Copy::lawful))]
     fn of(kind: u64, key: u64, amount: u64) -> Result<Operation, Answer>
         ensures { result ≡ operation_of kind key amount }
@@ -94,7 +95,8 @@ impl Operation {
     }
 }
 
-// Whether an operation has the key and the amount that its kind asks.
+// Whether an operation has the key and the amount that its kind asks. The three come one by one, as words of a log and of a caller do;
+// an `Operation` is what they make where they are lawful.
 #[tactic(auto, unfolding(crate::specs::Operation::operation_of))]
 pub fn lawful(kind: u64, key: u64, amount: u64) -> bool
     ensures { result ≡ lawful_rule kind key amount }
@@ -131,6 +133,7 @@ impl<'a> Pairs<'a> {
         self.words[0] as usize
     }
 
+    // That pair `i` is used is asked of each: a type of such numbers would have to name the words too.
     fn key(self, i: usize) -> u64
         requires { i < entries self.words.now }
         ensures { result ≡ key_at self.entry.words.now i }
@@ -189,7 +192,7 @@ impl<'a> Pairs<'a> {
         TURN * n
     }
 
-    // The first used pair whose key passes, or the entry count. A walk costs less by turns, as its end is asked for once in each.
+    // The first used pair whose key passes, or the entry count, and no Option: a new pair goes there. A walk costs less by turns, as its end is asked for once in each.
     fn first(self, key: u64, exact: bool) -> usize
         ensures { (result ≡ first_rule exact key self.entry.words.now) × (result ≤ entries self.entry.words.now) }
     {
@@ -265,7 +268,7 @@ impl<'a> Pairs<'a> {
         Search::Halve
     }
 
-    // Whether the key is there, and its count.
+    // Whether the key is there, and its count: two words and no Option, as README has it of `look_up_all`.
     fn tell(self, how: Search, key: u64, out: &mut [u64])
         requires { Ready how self.words.now × (length out.old ≡ 2) }
         ensures { out.new ≡ told (look_rule key (filled self.entry.words.now)) }
@@ -306,7 +309,8 @@ pub fn close_gap(part: &mut [u64], g: usize, m: usize)
     zero(&mut part[m..m + g]);
 }
 
-// `Fit` stands at the three functions that write the words, and in no type: a type would lend them, as `Pairs` does.
+// `Fit` is asked of the three functions that write the words, and stands in no type: of one around the `&mut` it would have to be proved
+// again behind each write.
 fn add_in(how: Search, w: &mut [u64], key: u64, amount: u64)
     requires { Fit w.old }
     ensures { w.new ≡ added_by how key amount w.old }
@@ -348,7 +352,7 @@ fn effect(how: Search, w: &mut [u64], what: Operation)
     }
 }
 
-// What `apply_by` tries: what is refused has changed nothing.
+// What `apply_by` tries, as a Result for `?`: what is refused has changed nothing.
 fn tried(how: Search, w: &mut [u64], kind: u64, key: u64, amount: u64) -> Result<(), Answer>
     ensures { record { answer = answer_of result; copy = w.new } ≡ apply_by how kind key amount w.old }
 {
@@ -367,8 +371,8 @@ pub fn apply_by(how: Search, w: &mut [u64], kind: u64, key: u64, amount: u64) ->
     }
 }
 
-// An operation on a copy: refused with nothing changed, or made. It stays beside `apply_by` as what README and docs name: a walk, which
-// asks for no order. Its kind is a number, since words come from anyone, and each number has an answer.
+// An operation on a copy: refused with nothing changed, or made. By a walk, for whoever lends words that nobody kept in order. Its kind is
+// a number, since words come from anyone, and each number has an answer.
 pub fn apply(w: &mut [u64], kind: u64, key: u64, amount: u64) -> Answer
     ensures { record { answer = result; copy = w.new } ≡ apply_rule kind key amount w.old }
 {
@@ -396,7 +400,8 @@ pub fn clear(w: &mut [u64]) -> Answer
     apply(w, 3, 0, 0)
 }
 
-// The two words of the key's pair, as a part of the copy, by how it is searched; no words where it is absent or the copy is unfit.
+// The two words of the key's pair, as a part of the copy, by how it is searched; no words, and no Option, as the
+// rule has it, where it is absent or the copy is unfit.
 pub fn look_up_by(how: Search, w: &[u64], key: u64) -> &[u64]
     ensures { result.now ≡ look_by how key w.now }
 {
@@ -417,7 +422,7 @@ pub fn look_up(w: &[u64], key: u64) -> &[u64]
     look_up_by(Search::Walk, w, key)
 }
 
-// The used part, uncopied: entry count, spill and the used pairs.
+// The used part, uncopied: entry count, spill and the used pairs; no words where the copy is unfit, as the rule has it.
 #[tactic(auto, unfolding(crate::specs::Copy::used_rule))]
 pub fn used(w: &[u64]) -> &[u64]
     ensures { result.now ≡ used_rule w.now }
@@ -443,7 +448,7 @@ fn is_view(v: &[u64]) -> bool
     2 <= v.len() && is_twice(v.len() - 2, v[0] as usize)
 }
 
-// By an index: of what comes back through `chunks_exact_mut` std says only the length.
+// By an index: of `chunks_exact_mut` std does not say what the slice is at the end.
 fn tell_all(how: Search, v: Pairs, keys: &[u64], out: &mut [u64])
     requires { Ready how v.words.now × (length out.old ≡ 2 * length keys.now) }
     ensures { out.new ≡ told_all keys.now (filled v.entry.words.now) }

@@ -27,7 +27,7 @@ pub fn put(to: Stdout, text: &[u8]) {
     let _ = to.write_all(text);
 }
 
-// Likewise.
+// Writes what Display makes of a value. What cannot be written is lost.
 pub fn say(to: Stdout, what: impl Display + Drop) {
     let _ = to.print(what);
 }
@@ -186,14 +186,17 @@ fn list(to: Stdout, changes: ChangedWords<'_>) {
 }
 
 // What words became, under a name; nothing where they are as before.
-pub fn say_words(to: Stdout, name: &str, before: &[u64], after: &[u64]) {
+pub fn say_words(to: Stdout, name: &[u8], before: &[u64], after: &[u64]) {
     let Differing { words, digest } = apart(before, after);
     match words {
         0 => {}
         1..=LISTED => {
-            say(to, name);
+            put(to, name);
             list(to, changes(before, after));
         }
-        _ => say(to, format_args!("{name} {words} in all, digest {digest}")),
+        _ => {
+            put(to, name);
+            say(to, format_args!(" {words} in all, digest {digest}"));
+        }
     }
 }

@@ -1,10 +1,9 @@
 // The writer's calls that are made at once: append, and the beginnings of publish, try, flush and take. They look at slot 0.
 ghost use Rattle.std.specs.Prelude.{◌≡◌, ◌+◌, ◌%◌, ◌^◌, true, false, [], ◌∷◌, length};
 ghost use Rattle.table.specs.Order.{op};
-ghost use Rattle.read.specs.Machine.{standing, is_gone};
+ghost use Rattle.read.specs.Machine.{is_gone};
 ghost use Rattle.read.specs.Handles.{smallest, with_due};
 ghost use Rattle.read.specs.Calls.{lent};
-ghost use Rattle.write.specs.Steps.{polling, beginning};
 ghost use Rattle.write.specs.Call.{ops_in};
 ghost use Rattle.write.specs.Begins.{writer_signs, step_signs, all_lawful, crowds as crowds_rule, appended as appended_rule, append_by, column_of, begun as begun_rule, taking as taking_rule, opened as opened_rule, open_on};
 
@@ -116,7 +115,8 @@ fn append<B: Operations>(
     }
 }
 
-// Append, by how its key is searched: an operation, refused or made. A door beside `extend_by`, since the promises speak of plain numbers.
+// Append, by how its key is searched: an operation, refused or made. A function beside
+// `extend_by`, since its promise speaks of plain numbers.
 pub fn append_by(
     how: Search,
     kind: u64,

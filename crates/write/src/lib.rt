@@ -15,7 +15,8 @@ use table::Answer;
 // How many operations a batch has at most.
 pub const BATCH_ROOM: usize = 64;
 
-// What a step of the writer, or a call that is made at once, makes of the control part and of the one slot that it looks at.
+// What a step of the writer, or a call that is made at once, makes of the control part and of the one slot that it looks at. No
+// Result: a refusal too says what they are.
 #[derive(Debug, Clone, Copy, PartialEq, Eq)]
 pub struct Moved {
     pub answer: Answer,

@@ -9,6 +9,7 @@ ghost use Rattle.write.specs.Begins.{all_lawful, lawful_batch, logged, operated_
 use crate::BATCH_ROOM;
 use table::Search;
 
+// That all are lawful is asked where they are made and stands in no type: one operation and words would each need a second type.
 pub(crate) trait Operations: Copy {
     // The operations, in order.
     ghost listed: { Self → List Op };
@@ -54,6 +55,7 @@ fn enlog_one(log: &mut [u64], n: usize, kind: u64, key: u64, amount: u64)
 
 // ---- one operation
 
+// The words that ask for it.
 #[derive(Debug, Clone, Copy, PartialEq, Eq)]
 pub(crate) struct Operation {
     pub(crate) kind: u64,

@@ -57,7 +57,7 @@ pub fn polling(c: Control, k: usize) -> Phase
     polled(c)
 }
 
-// Behind the poll of slot `k`.
+// Behind the poll of slot `k`. Beside `polling`: behind the largest number there is no next one.
 #[tactic(auto, unfolding(read::specs::Machine::slot_count))]
 pub(crate) fn passed(c: Control, k: usize) -> Phase
     ensures { result ≡ polling_rule c (k + 1) }
@@ -110,7 +110,7 @@ pub fn last_polling(k: usize) -> Phase
     Phase::Finish
 }
 
-// Behind take's poll of slot `k`.
+// Behind take's poll of slot `k`, likewise.
 #[tactic(auto, unfolding(read::specs::Machine::slot_count))]
 pub(crate) fn last_passed(k: usize) -> Phase
     ensures { result ≡ last_polling (k + 1) }

@@ -1,12 +1,10 @@
 // The lent words: what a step or an append does to the copy that the pointer does not name, and to the log.
 ghost use Rattle.std.specs.Fn.{FnOnceReturnsAtMut};
-ghost use Rattle.std.specs.Prelude.{◌≡◌, false, ◌+◌, ◌<◌, ◌≤◌, true, length, slice_index, slice_set};
+ghost use Rattle.std.specs.Prelude.{◌≡◌, false, ◌+◌, ◌<◌, true, slice_index};
 ghost use Rattle.table.specs.Copy.{zeros};
-ghost use Rattle.read.specs.Machine.{log_room};
 ghost use Rattle.read.specs.Handles.{copy_of};
-ghost use Rattle.write.specs.Steps.{of_left, of_right, operated_by, log_applied_by, over, unlogged};
-ghost use Rattle.write.specs.Call.{ops_in};
-ghost use Rattle.write.specs.Begins.{all_lawful, lawful_batch, logged, operated_all_by, logged_all};
+ghost use Rattle.write.specs.Steps.{of_left, of_right, log_applied_by, over, unlogged};
+ghost use Rattle.write.specs.Begins.{all_lawful, operated_all_by};
 
 use crate::operations::Operations;
 use read::LOG_ROOM;

@@ -101,6 +101,16 @@ from20_wrong h = apart itself refl (h Unmarked refl)
 always_torn_wrong : FaultPromise (λ f. Torn) → ⊥
 always_torn_wrong h = apart fault_number refl (h (record { fault = Bad; place = 0 }) refl)
 
+-- the amount of any record counts; every fault has the same number; every fault is a bad record
+any_amount_wrong : MembersPromise (λ f. f.amount) → ⊥
+any_amount_wrong h = apart itself refl (h (record { call = 8; slot = 0; guard = 0; kind = 1; key = 0; amount = 2 }) refl)
+
+one_number_wrong : FaultNumberPromise (λ f. 21) → ⊥
+one_number_wrong h = apart itself refl (h Version refl)
+
+always_bad_wrong : FaultPromise (λ f. Bad) → ⊥
+always_bad_wrong h = apart fault_number refl (h (record { fault = Torn; place = 0 }) refl)
+
 -- ---- check
 
 abbrev entries_or_none : Result ℕ Flaw → ℕ

@@ -38,6 +38,7 @@ use Rattle.table.specs.declared.Answer.{Answer}
 use Rattle.table.specs.declared.Search.TheVariants.{Walk}
 use Rattle.read.specs.declared.Sign.{Sign}
 use Rattle.read.specs.Handles.{sign as signed}
+use Rattle.promises.proofs.Read.Promises.{EitherPromise, SamePromise}
 use Rattle.promises.proofs.Contracts.{ref, Determines, DeterminesWords}
 
 fresh_state_determined : Determines fresh_state.Post
@@ -105,6 +106,12 @@ given_determined :
     (κs : _) (b : Bool) (a : Answer) (xs : List Sign) (r q : _) (s t : _) →
     smallest.Post κs (ref (signed a b ∷ xs), tt) r s → smallest.Post κs (ref (signed a b ∷ xs), tt) q t → r ≡ q
 given_determined κs b a xs = smallest_determined κs (ref (signed a b ∷ xs), tt)
+
+either_determined : (f g : Bool → Bool → Bool) → EitherPromise f → EitherPromise g → (a b : Bool) → f a b ≡ g a b
+either_determined f g h l a b = h a b ∙ sym (l a b)
+
+same_determined : (f g : Bool → Bool → Bool) → SamePromise f → SamePromise g → (a b : Bool) → f a b ≡ g a b
+same_determined f g h l a b = h a b ∙ sym (l a b)
 
 locks_determined : Determines locks.Post
 locks_determined κs a r q s t h l = h ∙ sym l

@@ -1,6 +1,7 @@
 -- Each public contract as a promise of any program, a program being a function of the arguments (`Contracts`).
 use Prim.Native.Nat.{ℕ}
-use mathlib.Core.Bool.{Bool}
+use mathlib.Core.Path.{◌≡◌, refl}
+use mathlib.Core.Bool.{Bool, ◌||◌, beq}
 use mathlib.Core.List.{List, ◌∷◌}
 use Rattle.promises.proofs.Contracts.{typed, Words, ref, Refs, lends, mut_refs, mut_lends, κ₁, κ₂, κ₃, Leaves, Keeps, Keeps1, Keeps2}
 use Rattle.table.specs.declared.Answer.{Answer}
@@ -15,13 +16,14 @@ use Rattle.read.specs.declared.Phase.{Phase}
 use Rattle.read.specs.declared.Control.{Control}
 use Rattle.read.specs.declared.State.{State}
 use Rattle.read.specs.declared.Handle.{Handle}
-use Rattle.read.specs.Machine.{Verdict, is_open, first_guard, any_open, all_open, is_due, is_load, no_slot, new_slot, locks, sized, orderly, judged, row, fresh}
+use Rattle.read.specs.Machine.{Verdict, same, is_open, first_guard, any_open, all_open, is_due, is_load, no_slot, new_slot, locks, sized, orderly, judged, row, fresh}
 use Rattle.read.specs.declared.Made.{Made}
 use Rattle.read.specs.declared.Reply.{Reply}
 use Rattle.read.specs.declared.Handle.TheVariants.{Drop, Enter, GoOn, Release, LookUp, WasDropped}
 use Rattle.read.specs.Admission.{entry}
 use Rattle.read.specs.Handles.{sign, given, smallest, handle_signs, freed, entered, went_on, released, guarded_copy, handle_by, handle_on, create_on}
 use Rattle.read.specs.Calls.{Lent, slot_at, handle_rule, create_rule, view_rule, pair_rule, start_rule}
+use Rattle.read.proofs.Same.{same_beq}
 use Rattle.read.proofs
 use Rattle.machine.proofs as whole
 use Rattle.machine.proofs.Inner as within
@@ -132,6 +134,13 @@ OrderlyPromise = Keeps1 (typed tt proofs.order.orderly.Kinds.ps) (proofs.order.o
 
 -- ---- the judgement
 
+-- what is true of one of two truth values, and of both or neither; the code says it by the language's own operators
+abbrev pub EitherPromise : (Bool → Bool → Bool) → Type 0
+EitherPromise f = (a b : Bool) → f a b ≡ (a || b)
+
+abbrev pub SamePromise : (Bool → Bool → Bool) → Type 0
+SamePromise f = (a b : Bool) → f a b ≡ beq b a
+
 abbrev pub LocksPromise : (Phase → Bool) → Type 0
 LocksPromise = Keeps1 (typed tt proofs.admission.locks.Kinds.ps) (proofs.admission.locks.Reads.Post tt)
 
@@ -215,11 +224,11 @@ pub kept :
     × NewSlotPromise new_slot × FreedPromise freed × EnteredPromise entered × WentOnPromise (λ c s. went_on c s.due s)
     × ReleasedPromise released × SignPromise sign × SmallestPromise smallest × GivenPromise given × VerdictPromise (λ c own s h. smallest (handle_signs c own s h)) × GuardedCopyPromise guarded_copy × HandlePromise handle_on × HandleByPromise (λ how. handle_by (look_by how))
     × CreateOnPromise create_on × OrderlyPromise orderly
-    × LocksPromise locks
+    × EitherPromise ◌||◌ × LocksPromise locks × SamePromise same
     × SizedPromise sized × JudgePromise judged × StartPromise start_rule × CreatePromise create_rule
     × DropPromise (λ i. handle_rule i Drop) × EnterPromise (λ i. handle_rule i Enter) × GoOnPromise (λ i. handle_rule i GoOn)
     × WasDroppedPromise (λ i. handle_rule i WasDropped) × OnHandlePromise handle_rule
     × ReleasePromise (λ i j. handle_rule i (Release j)) × LookUpPromise (λ i j key. handle_rule i (LookUp j key))
     × ViewPromise view_rule × PairPromise pair_rule
 unfolding smallest look_by look_rule
-kept = search
+kept = search same_beq

@@ -34,7 +34,7 @@ use Rattle.table.proofs.Computes.{apart}
 use Rattle.promises.proofs.Witnesses.{copy, none, seven, falls, no_log, inside, word_at, itself}
 use Rattle.promises.proofs.Contracts.{Words, slice}
 use Rattle.read.proofs.Computes.{rules}
-use Rattle.promises.proofs.Read.Promises.{FreshPromise, SlotAtPromise, RowPromise, EntryPromise, FirstGuardPromise, IsOpenPromise, AnyOpenPromise, AllOpenPromise, IsDuePromise, IsLoadPromise, NoSlotPromise, NewSlotPromise, FreedPromise, EnteredPromise, WentOnPromise, ReleasedPromise, VerdictPromise, GuardedCopyPromise, HandlePromise, HandleByPromise, CreateOnPromise, OrderlyPromise, SignPromise, SmallestPromise, GivenPromise, LocksPromise, SizedPromise, JudgePromise, StartPromise, CreatePromise, DropPromise, EnterPromise, GoOnPromise, WasDroppedPromise, OnHandlePromise, ReleasePromise, LookUpPromise, ViewPromise, PairPromise}
+use Rattle.promises.proofs.Read.Promises.{FreshPromise, SlotAtPromise, RowPromise, EntryPromise, FirstGuardPromise, IsOpenPromise, AnyOpenPromise, AllOpenPromise, IsDuePromise, IsLoadPromise, NoSlotPromise, NewSlotPromise, FreedPromise, EnteredPromise, WentOnPromise, ReleasedPromise, VerdictPromise, GuardedCopyPromise, HandlePromise, HandleByPromise, CreateOnPromise, OrderlyPromise, SignPromise, SmallestPromise, GivenPromise, EitherPromise, LocksPromise, SamePromise, SizedPromise, JudgePromise, StartPromise, CreatePromise, DropPromise, EnterPromise, GoOnPromise, WasDroppedPromise, OnHandlePromise, ReleasePromise, LookUpPromise, ViewPromise, PairPromise}
 use Rattle.read.proofs.Cases.{state_of, with_lock}
 
 -- ---- what the witnesses are made of
@@ -415,6 +415,20 @@ gives_first (x ∷ xs) = Err x.answer
 gives_first_wrong : SmallestPromise gives_first → ⊥
 unfolding smallest
 gives_first_wrong h = apart verdict refl (h (sign answer.Gone false ∷ []) refl)
+
+-- either is both, or the first alone
+either_both_wrong : EitherPromise ◌&&◌ → ⊥
+either_both_wrong h = apart bit refl (h true false)
+
+either_first_wrong : EitherPromise (λ a b. a) → ⊥
+either_first_wrong h = apart bit refl (h false true)
+
+-- the same is either, or both
+same_either_wrong : SamePromise ◌||◌ → ⊥
+same_either_wrong h = apart bit refl (h true false)
+
+same_both_wrong : SamePromise ◌&&◌ → ⊥
+same_both_wrong h = apart bit refl (h false false)
 
 -- all that is under way holds the lock; nothing does
 locks_underway_wrong : LocksPromise underway → ⊥

@@ -9,4 +9,4 @@ pub returns : goal.returns
 unfolding slot_count look_by look_rule
 returns c =
     let a = c.args in
-    rw (c.reply_of.ensures, c.handle_by-m.ensures, c.slot_at-own.ensures) (sym (reply_in a.slot a.h a.left.now a.right.now a.st c.if-slot-ge-SLOTS.false))
+    rw (c.reply_of.ensures, c.handle_by-m.ensures, c.slot_at-s.ensures) (sym (reply_in a.slot a.h a.left.now a.right.now a.st c.if-slot-ge-SLOTS.false))
