@@ -1,23 +1,21 @@
 -- The rules, case by case: what each is under the tests that lead there.
-use Rattle.std.proofs.Common.{◌≡◌, ℕ, zero, suc, ◌*◌, ◌<◌, ◌≤◌, Bool, true, false, ◌&&◌, eqb, leb, List, [], ◌∷◌, length, get_or, set, sym, refl, ap, ◌∙◌, arith, le-ltb, lt-ltb, eqb-true, leb-false, leb-true}
+use Rattle.std.proofs.Common.{◌≡◌, ℕ, zero, suc, ◌*◌, ◌<◌, ◌≤◌, Bool, true, false, ◌&&◌, eqb, leb, List, [], ◌∷◌, length, get_or, sym, refl, ap, ◌∙◌, arith, le-ltb, lt-ltb, eqb-true, leb-false, leb-true}
 use lib.Seq.{set-get_or}
 use Rattle.table.proofs.Split.{split}
-use Rattle.table.specs.Copy.{pairs, words, entries, zeros}
+use Rattle.table.specs.Copy.{pairs, words, entries}
 use Rattle.table.specs.declared.Answer.{Answer}
 use Rattle.table.specs.declared.Answer.TheVariants as answer
 use Rattle.table.proofs.Booleans.{both}
-use Rattle.read.specs.declared.Due.{Due}
-use Rattle.read.specs.declared.Due.TheVariants.{Nothing, Load}
+use Rattle.read.specs.declared.Due.TheVariants.{Nothing}
 use Rattle.read.specs.declared.Guard.{Guard}
 use Rattle.std.specs.Prelude.{None, Ok, Err}
 use Rattle.read.specs.declared.Slot.{Slot}
 use Rattle.read.specs.declared.Control.{Control}
 use Rattle.read.specs.declared.Handle.{Handle}
-use Rattle.read.specs.declared.Handle.TheVariants.{LookUp}
 use Rattle.read.specs.declared.State.{State}
-use Rattle.read.specs.Machine.{with_reading, slot_count, no_slot, new_slot, fresh, log_room, log_words, guard_count, shut, is_open, stands_right, put_guard, first_guard, any_open, whole_control, sized, orderly, glanced, judged, first_unlawful, behind}
-use Rattle.read.specs.Handles.{made_of, copy_of, guarded_copy, bumped, with_due, guarded, loaded, entered, released, smallest, handle_signs, handled_by, handle_by, handle_on, create_signs, create_on}
-use Rattle.read.specs.Calls.{slot_at, refusal, reply_of, lent, handle_reply, handle_rule, create_reply, create_rule, through_guard, through_rule, start_rule}
+use Rattle.read.specs.Machine.{slot_count, no_slot, log_room, log_words, guard_count, shut, is_open, stands_right, whole_control, sized, glanced}
+use Rattle.read.specs.Handles.{made_of, copy_of, guarded_copy, smallest, handle_on, create_signs}
+use Rattle.read.specs.Calls.{slot_at, refusal, reply_of, handle_reply}
 use Rattle.read.proofs.Verdicts.{refused_not, silent}
 
 -- a state by its parts
@@ -80,11 +78,6 @@ module _ (c : Control) (l r g : List ℕ) where
   unfolding glanced
   glanced_broken e f = rw (e, f, glanced)
 
-  pub glanced_whole :
-      sized l r g ≡ true → (leb (entries l) pairs && (leb (entries r) pairs && whole_control c)) ≡ true → glanced c l r g ≡ Ok tt
-  unfolding glanced
-  glanced_whole e f = rw (e, f, glanced)
-
   -- the log has room for the operations that the control part counts
   pub glanced_room : glanced c l r g ≡ Ok tt → 3 * c.length ≤ length g
   glanced_room e =
@@ -93,21 +86,6 @@ module _ (c : Control) (l r g : List ℕ) where
       (λ w. omega (arith, sized_lengths l r g s, whole_length c (both (leb (entries r) pairs) (whole_control c) (both (leb (entries l) pairs) _ w).1).1))
       (λ w. refused_not (sym (glanced_broken s w) ∙ e)))
       (λ s. refused_not (sym (glanced_length s) ∙ e))
-
-module _ (st : State) (l r g : List ℕ) where
-  pub judged_refused : (a : Answer) → glanced st.control l r g ≡ Err a → judged st l r g ≡ Err a
-  unfolding judged
-  judged_refused a e = rw (e, judged)
-
-  module _ (e : glanced st.control l r g ≡ Ok tt) where
-    pub judged_broken :
-        (leb st.control.length (first_unlawful st.control.length g) && orderly st) ≡ false → judged st l r g ≡ Err answer.Broken
-    unfolding judged
-    judged_broken f = rw (e, f, judged)
-
-    pub judged_whole : (leb st.control.length (first_unlawful st.control.length g) && orderly st) ≡ true → judged st l r g ≡ Ok tt
-    unfolding judged
-    judged_whole f = rw (e, f, judged)
 
 -- ---- slots
 
@@ -146,64 +124,8 @@ module _ (i : ℕ) (h : Handle) (l r : List ℕ) (st : State) where
   pub reply_in : i < slot_count → handle_reply i h l r st ≡ reply_of i (handle_on st.control i (slot_at st i) h l r) st
   reply_in p = rw (lt-ltb i slot_count p, handle_reply)
 
-  module _ (g : List ℕ) where
-    pub call_refused : (a : Answer) → judged st l r g ≡ Err a → handle_rule i h l r g st ≡ refusal a st
-    unfolding handle_rule
-    call_refused a e = rw (e, handle_rule)
-
-    pub call_judged : judged st l r g ≡ Ok tt → handle_rule i h l r g st ≡ handle_reply i h l r st
-    unfolding handle_rule
-    call_judged e = rw (e, handle_rule)
-
 -- ---- create
 
 -- where it is made, the slot is there
 pub create_room : (c : Control) → smallest (create_signs c) ≡ Ok tt → c.free < slot_count
 create_room c e = leb-false slot_count c.free (silent 12 (create_signs c) e)
-
-module _ (l r g : List ℕ) (st : State) where
-  pub new_refused : (a : Answer) → judged st l r g ≡ Err a → create_rule l r g st ≡ refusal a st
-  unfolding create_rule
-  new_refused a e = rw (e, create_rule)
-
-  pub new_judged : judged st l r g ≡ Ok tt → create_rule l r g st ≡ create_reply st
-  unfolding create_rule
-  new_judged e = rw (e, create_rule)
-
--- ---- a guard's view
-
-module _ (i j : ℕ) (l r : List ℕ) (st : State) where
-  pub guard_past : slot_count ≤ i → through_guard i j l r st ≡ []
-  guard_past p = rw (le-ltb i slot_count p, through_guard)
-
-  pub guard_refused :
-      i < slot_count → (a : Answer) → smallest (handle_signs st.control (eqb i 0) (slot_at st i) (LookUp j 0)) ≡ Err a →
-      through_guard i j l r st ≡ []
-  guard_refused p a e = rw (lt-ltb i slot_count p, e, through_guard)
-
-  pub guard_shown :
-      i < slot_count → smallest (handle_signs st.control (eqb i 0) (slot_at st i) (LookUp j 0)) ≡ Ok tt →
-      through_guard i j l r st ≡ guarded_copy (slot_at st i).guards j l r
-  guard_shown p e = rw (lt-ltb i slot_count p, e, through_guard)
-
-  module _ (g : List ℕ) where
-    pub through_refused : (a : Answer) → judged st l r g ≡ Err a → through_rule i j l r g st ≡ []
-    unfolding through_rule
-    through_refused a e = rw (e, through_rule)
-
-    pub through_judged : judged st l r g ≡ Ok tt → through_rule i j l r g st ≡ through_guard i j l r st
-    unfolding through_rule
-    through_judged e = rw (e, through_rule)
-
--- ---- start
-
-module _ (l r g : List ℕ) where
-  pub start_refused : sized l r g ≡ false → start_rule l r g ≡ lent (refusal answer.Length fresh) l r g
-  unfolding start_rule
-  start_refused e = rw (e, start_rule)
-
-  pub start_made :
-      sized l r g ≡ true →
-      start_rule l r g ≡ lent (record { answer = answer.Done; value = 0; state = fresh }) (zeros l) (zeros r) (zeros g)
-  unfolding start_rule
-  start_made e = rw (e, start_rule)

@@ -10,11 +10,11 @@ use lib.ListN.{length, get_or, take, drop, set, replicate, length-append, length
 use lib.Seq.{length-take-le, take_all, take_at, drop-cons, get_or-take, get_or-append-add}
 use borrow.Rule.Slice.PartMut.{put_mid, same_len_mid}
 use lib.Dec.{eqb}
-use borrow.Author.Tests.{eqb-true, eq-eqb, le-leb, lt-leb}
+use borrow.Author.Tests.{eq-eqb, le-leb, lt-leb}
 use Rattle.table.specs.declared.Answer.TheVariants.{Done, Length, Broken}
 use Rattle.table.specs.declared.Search.{Search}
 use Rattle.table.specs.declared.Search.TheVariants.{Walk, Halve}
-use Rattle.table.specs.Copy.{pairs, words, entries, key_at, count_at, used_of, pair_of, present, has_key, find_by, pair_by, fits, Fit, Holds, look_rule, used_rule}
+use Rattle.table.specs.Copy.{pairs, words, entries, key_at, count_at, used_of, pair_of, present, has_key, find_by, pair_by, fits, Fit, look_rule, used_rule}
 use Rattle.table.specs.Find.{Found, Missing}
 use Rattle.table.specs.Order.{Rising}
 use Rattle.table.specs.Many.{is_view, filled, told, told_all, Ready, look_all_rule}
@@ -168,13 +168,6 @@ module _ (v keys out : List ℕ) where
       look_all_rule v keys out ≡ record { answer = Done; copy = told_all keys (filled v) }
   unfolding look_all_rule
   all_told h o b = rw (h, o, le-leb (entries v) pairs b, look_all_rule)
-
-module _ (v : List ℕ) (h : is_view v ≡ true) where
-  pub view_length : length v ≡ 2 * entries v + 2
-  view_length = eqb-true (length v) (2 * entries v + 2) h
-
-  pub view_holds : entries v ≤ pairs → Holds v
-  view_holds b = record { room = omega (arith, view_length); within = b }
 
 -- ---- the view of a copy
 

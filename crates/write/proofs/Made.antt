@@ -1,5 +1,5 @@
 -- The calls that are made at once: each rule under the tests that lead to it, as the code's functions meet it.
-use Rattle.std.proofs.Common.{◌≡◌, ℕ, ◌+◌, ◌%◌, ◌^◌, Bool, true, false, not, leb, List, length, sym, ap, ◌∙◌}
+use Rattle.std.proofs.Common.{◌≡◌, ℕ, Bool, true, false, not, leb, List, length, sym, ap, ◌∙◌}
 use borrow.Author.Tests.{not-false}
 use Rattle.table.specs.Order.{Op}
 use Rattle.table.specs.declared.Search.{Search}
@@ -10,32 +10,14 @@ use Rattle.read.specs.declared.Control.{Control}
 use Rattle.read.specs.Machine.{Verdict}
 use Rattle.std.specs.Prelude.{Ok, Err}
 use Rattle.read.specs.declared.Sign.{Sign}
-use Rattle.read.specs.Handles.{smallest, with_due}
+use Rattle.read.specs.Handles.{smallest}
 use Rattle.read.specs.Calls.{Lent, lent}
 use Rattle.write.specs.declared.Moved.{Moved}
-use Rattle.write.specs.Steps.{with_log, of_left, of_right, refused}
-use Rattle.write.specs.Begins.{writer_signs, batch_room, all_lawful, lawful_batch, crowds, operated_all_by, logged_all, appended, append_by, value}
+use Rattle.write.specs.Steps.{refused}
+use Rattle.write.specs.Begins.{writer_signs, batch_room, all_lawful, lawful_batch, crowds, appended, append_by}
 use Rattle.read.proofs.Verdicts.{silent}
 
 -- ---- append
-
-module _ (how : Search) (os : List Op) (c : Control) (s : Slot) (e : ℕ) (l r g : List ℕ) where
-  pub appended_first :
-      {m : Moved} {t : Slot} {l' r' : List ℕ} →
-      c.first ≡ true → t ≡ with_due ((s.epoch + 2) % 2 ^ 64) s.due s → m ≡ value 0 c t e →
-      (l' ≡ of_left c.right (operated_all_by how os) l) × (r' ≡ of_right c.right (operated_all_by how os) r) →
-      lent m l' r' g ≡ appended how c.first os c s e l r g
-  appended_first x y h w =
-      (λ i. lent ((h ∙ ap (λ (t : Slot). value 0 c t e) y) i) (w.0 i) (w.1 i) g)
-      ∙ ap (λ (f : Bool). appended how f os c s e l r g) (sym x)
-
-  pub appended_later :
-      {m : Moved} {d : Control} {n : ℕ} {g' : List ℕ} →
-      c.first ≡ false → n ≡ length os → d ≡ with_log (c.length + n) c.swapped c → m ≡ value 0 d s e →
-      g' ≡ logged_all c.length os g → lent m l r g' ≡ appended how c.first os c s e l r g
-  appended_later x z y h w =
-      (λ i. lent ((h ∙ ap (λ (d : Control). value 0 d s e) (y ∙ ap (λ (n : ℕ). with_log (c.length + n) c.swapped c) z)) i) l r (w i))
-      ∙ ap (λ (f : Bool). appended how f os c s e l r g) (sym x)
 
 -- by the verdict on what speaks against it
 module _ (os : List Op) (c : Control) (s : Slot) {u f : Bool} {n : ℕ} {v : Verdict} (x : u ≡ lawful_batch os) (z : n ≡ length os)
