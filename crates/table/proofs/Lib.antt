@@ -1,6 +1,7 @@
 -- The laws of the count table.
 pub mod Map
 pub mod Contract
+pub mod Needs
 pub mod Booleans
 pub mod Lists
 pub mod Parity

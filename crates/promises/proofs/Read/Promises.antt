@@ -1,6 +1,6 @@
 -- Each public contract as a promise of any program, a program being a function of the arguments (`Contracts`).
 use Prim.Native.Nat.{ℕ}
-use mathlib.Core.Path.{◌≡◌, refl}
+use mathlib.Core.Path.{◌≡◌}
 use mathlib.Core.Bool.{Bool, ◌||◌, beq}
 use mathlib.Core.List.{List, ◌∷◌}
 use Rattle.promises.proofs.Contracts.{typed, Words, ref, Refs, lends, mut_refs, mut_lends, κ₁, κ₂, κ₃, Leaves, Keeps, Keeps1, Keeps2}

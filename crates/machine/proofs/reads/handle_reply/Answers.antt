@@ -1,5 +1,5 @@
 -- A walk is what the rule of any words says.
-use mathlib.Core.Path.{sym, ◌∙◌}
+use mathlib.Core.Path.{sym}
 use Rattle.table.specs.Copy.{look_by, look_rule}
 use Rattle.read.specs.Machine.{slot_count}
 use Rattle.read.proofs.Cases.{reply_in}
