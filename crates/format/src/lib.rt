@@ -53,7 +53,7 @@ impl From<Flaw> for Fault {
     }
 }
 
-// A record's fields, as they stand in the file: the call by its number, which may be none of the calls.
+// A record's fields, as they stand in the file: the call by its number, which may be none of the calls. `fields_at` promises it so.
 #[derive(Debug, Clone, Copy, PartialEq, Eq)]
 pub struct Fields {
     pub call: u64,
@@ -105,7 +105,7 @@ fn rest_at(s: &[u8], at: usize) -> &[u8]
     s.get(at..).unwrap_or(&[])
 }
 
-// One that is cut short: what is missing is 0. It is seldom asked for, and its array would be cleared for each whole record too.
+// One that is cut short: what is missing is 0. Out of line: inlined, its array would be cleared for each whole record too.
 #[cold]
 #[inline(never)]
 fn fields_short(s: &[u8], at: usize) -> Fields

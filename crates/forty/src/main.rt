@@ -32,7 +32,7 @@ const ADD: u64 = 1;
 
 // ---- the machine
 
-// An ADD for each pair, in a mixed order.
+// An ADD for each pair, in a mixed order. State and slices come one by one, as each call of the machine takes them.
 fn filled(mut state: State, left: &mut [u64], right: &mut [u64], log: &mut [u64]) -> State {
     for i in 0..PAIRS {
         let p = (i * 5 % PAIRS) as u64 + 1;
@@ -202,6 +202,7 @@ fn both(to: Stdout, reader: &Reader<'_>) {
     compare(to, &a, &b);
 }
 
+// The way comes from a word: for a closure there would be a match all the same.
 fn counted(to: Stdout, reader: &Reader<'_>, way: Way, rounds: u64) {
     let keys = keys();
     let mut told = [0; OUT];

@@ -71,6 +71,7 @@ pub fn word(line: &[u8], k: usize) -> &[u8] {
 
 // ---- numbers
 
+// By hand: std's `parse` takes no sizes, and no number that is too large.
 fn digit(b: u8) -> u64 {
     match b {
         b'0'..=b'9' => u64::from(b - b'0'),
@@ -123,7 +124,7 @@ fn word_at(words: &[u64], i: usize) -> u64 {
     words.get(i).copied().unwrap_or(0)
 }
 
-// The places and the words that are not as they were before.
+// The places and the words that are not as they were before. A type of its own: no function hands out a chain of closures.
 #[derive(Drop)]
 struct ChangedWords<'a> {
     before: &'a [u64],

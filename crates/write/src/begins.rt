@@ -162,6 +162,7 @@ pub fn extend_by(
 
 // ---- publish, try, flush, take
 
+// A place in the table of admissions.
 fn column_of(o: Opening) -> usize
     ensures { result ≡ column_of o }
 {

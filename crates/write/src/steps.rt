@@ -40,7 +40,8 @@ pub fn place(p: Phase) -> usize
     }
 }
 
-// What a step, or a call that is made at once, looks at: the control part, one slot, and the slot's snapshot.
+// What a step, or a call that is made at once, looks at: the control part, one slot, and the slot's snapshot. The
+// public functions take the three one by one, as their promises name them.
 #[derive(Debug, Clone, Copy, PartialEq, Eq)]
 pub(crate) struct Part {
     pub(crate) control: Control,

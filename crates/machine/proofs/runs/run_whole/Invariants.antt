@@ -1,4 +1,5 @@
--- Before each turn of the steps the run goes on from here to what it is to give; before each turn of the slot scan it stands in the scan.
+-- Before each turn of the steps the run goes on from here to what it is to give; before each turn of the slot scan it stands in the scan,
+-- one step being made for each slot that was passed.
 use Rattle.write.specs.Runs.{run_on}
 use Rattle.write.proofs.Count.{left as left_of}
 use Rattle.write.proofs.Turns.{Running, Scanned}
