@@ -13,7 +13,7 @@ pub const RECORD: usize = 20;
 
 pub const ENTRY: usize = 9;
 
-// The calls of an operation and of a batch of them, which is the last of the calls.
+// The calls of an operation and of a batch of them, which is the last of the calls. Numbers, as in `Fields`: a file's call may be none.
 const APPEND: u8 = 8;
 
 pub const BATCH: u8 = 15;

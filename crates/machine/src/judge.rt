@@ -42,7 +42,7 @@ fn whole_control(c: Control) -> bool
         && c.null == nulls(c.phase)
 }
 
-// The first of `n` logged operations that is not as its kind asks, or `n`, and no Option: the rule compares the two.
+// The first of `n` logged operations that is not as its kind asks, or `n`, and no Option: the rule `judged` compares the two.
 fn first_unlawful(n: usize, log: &[u64]) -> usize
     requires { 3 * n ≤ length log.now }
     ensures { result ≡ first_unlawful n log.now }

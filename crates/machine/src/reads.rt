@@ -6,7 +6,7 @@ use crate::{judge, refusal, replied};
 use read::{Control, Handle, Made, Reply, SLOTS, State, handles, slot_at};
 use table::{Answer, Search};
 
-// The whole copy that a guard stands on, or no words, and no Option: of none `used` and `look_up` show none. On a state that is whole.
+// The whole copy that a guard stands on, or no words, and no Option, as `through_rule` has it. On a state that is whole.
 #[tactic(auto, unfolding(read::specs::Machine::slot_count))]
 fn through_guard<'a>(
     st: State,

@@ -103,7 +103,8 @@ fn halted(p: Phase, c: Control) -> Control
     }
 }
 
-// Steps until the call ends, or a poll is held or declined. The polls are a scan over the slots, which is left from inside.
+// Steps until the call ends, or a poll is held or declined. The polls are a scan over the slots, which is left from inside. A loop: it
+// goes on while a call is under way, and counts no index.
 pub(crate) fn run_whole(st: State, left: &mut [u64], right: &mut [u64], log: &mut [u64]) -> Reply
     requires { whole_control st.control ≡ true }
     ensures { lent result left.new right.new log.new ≡ run_on st left.old right.old log.old }

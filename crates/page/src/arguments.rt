@@ -2,10 +2,10 @@
 use std::env::{Env, FillError};
 use std::str::FromStr;
 
-// The longest path has fewer bytes.
+// The longest path has fewer bytes. So much room is lent: a String would want the heap.
 pub(crate) const PATH: usize = 4096;
 
-// The longest command has as many bytes.
+// The longest command has as many bytes, likewise.
 const WORD: usize = 4;
 
 #[derive(Clone, Copy)]

@@ -8,7 +8,7 @@ ghost use Rattle.place.specs.Release.{release_rule};
 use read::{Slot, guards};
 use table::Answer;
 
-// What a release answers, and the record after it: no Result, since a refusal too says what the record is.
+// What a release answers, and the record after it: no Result, since a refusal too says what the record is (`release_rule`).
 #[derive(Debug, Clone, Copy, PartialEq, Eq)]
 pub struct Released {
     pub answer: Answer,

@@ -54,7 +54,7 @@ fn touch<'a>(i: usize, h: Handle, c: Control, s: Slot, left: &'a [u64], right: &
 // So many operations that they are refused, whatever they are.
 const CROWD: usize = BATCH_ROOM + 1;
 
-// A batch of `n`, whose records begin at byte `at`.
+// A batch of `n`, whose records begin at byte `at`. By file and byte, as the rules name a record; so the next one.
 fn batch(
     schedule: &[u8],
     at: usize,

@@ -6,7 +6,7 @@ ghost use Rattle.read.specs.Handles.{made_of, with_due, freed as freed_rule, gua
 use crate::{Control, Due, GUARDS, Guard, Made, Slot};
 use table::Answer;
 
-// The first guard that is open, or that is shut, by what is wanted; their number where there is none, and no Option: the rule of a load
+// The first guard that is open, or that is shut, by what is wanted; their number where there is none, and no Option: the rule `loaded`
 // hands it on as a value.
 pub(crate) fn first_guard(want: bool, g: [Guard; GUARDS]) -> usize
     ensures { result ≡ first_guard want g }

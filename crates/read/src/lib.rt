@@ -117,7 +117,7 @@ pub enum Handle {
     WasDropped,
 }
 
-// What speaks against a call: a refusal, and whether it applies. No Option: the rules have a list of signs, those that do not apply too.
+// What speaks against a call: a refusal, and whether it applies. No Option: `handle_signs` and its like have those that do not apply too.
 #[derive(Debug, Clone, Copy, PartialEq, Eq)]
 pub struct Sign {
     pub answer: Answer,
@@ -127,7 +127,7 @@ pub struct Sign {
 // What a call is judged to be: admitted, or refused with an answer.
 pub type Verdict = Result<(), Answer>;
 
-// What create or a call on a handle makes of its slot, and which one is handed out next. No Result: a refusal too says what the slot is.
+// What create or a call on a handle makes of its slot, and which one is handed out next. No Result: a refusal too says what the slot is (`made_of`).
 #[derive(Debug, Clone, Copy, PartialEq, Eq)]
 pub struct Made {
     pub answer: Answer,
@@ -136,7 +136,7 @@ pub struct Made {
     pub free: usize,
 }
 
-// No Result: a refusal too hands back the state, and a run that is held has a value.
+// No Result: a refusal too hands back the state (`refusal`), and a run that is held has a value.
 #[derive(Debug, Clone, Copy, PartialEq, Eq)]
 pub struct Reply {
     pub answer: Answer,

@@ -21,7 +21,7 @@ const MOST: u64 = PAIRS as u64;
 // How many pairs a walk passes in a turn.
 const TURN: usize = 4;
 
-// What a call answers. `Done` is one of them, and no Result: the rules have one answer for each call, and a transcript one number.
+// What a call answers. `Done` is one of them, and no Result: `apply_rule` and its like have one answer for each call, and a transcript one number.
 #[derive(Debug, Clone, Copy, PartialEq, Eq)]
 pub enum Answer {
     Done,
@@ -361,7 +361,8 @@ fn tried(how: Search, w: &mut [u64], kind: u64, key: u64, amount: u64) -> Result
     Ok(())
 }
 
-// An operation on a copy, by how its key is searched: refused with nothing changed, or made.
+// An operation on a copy, by how its key is searched: refused with nothing changed, or made. The three words come one by one, as to
+// `lawful`.
 pub fn apply_by(how: Search, w: &mut [u64], kind: u64, key: u64, amount: u64) -> Answer
     ensures { record { answer = result; copy = w.new } ≡ apply_by how kind key amount w.old }
 {
@@ -379,7 +380,7 @@ pub fn apply(w: &mut [u64], kind: u64, key: u64, amount: u64) -> Answer
     apply_by(Search::Walk, w, kind, key, amount)
 }
 
-// ADD: the key's count grows by the amount.
+// ADD: the key's count grows by the amount. By its number, as `apply` takes it, and so the two below.
 pub fn add(w: &mut [u64], key: u64, amount: u64) -> Answer
     ensures { record { answer = result; copy = w.new } ≡ apply_rule 1 key amount w.old }
 {
@@ -400,8 +401,8 @@ pub fn clear(w: &mut [u64]) -> Answer
     apply(w, 3, 0, 0)
 }
 
-// The two words of the key's pair, as a part of the copy, by how it is searched; no words, and no Option, as the
-// rule has it, where it is absent or the copy is unfit.
+// The two words of the key's pair, as a part of the copy, by how it is searched; no words, and no Option, as
+// `look_by` has it, where it is absent or the copy is unfit.
 pub fn look_up_by(how: Search, w: &[u64], key: u64) -> &[u64]
     ensures { result.now ≡ look_by how key w.now }
 {
@@ -422,7 +423,7 @@ pub fn look_up(w: &[u64], key: u64) -> &[u64]
     look_up_by(Search::Walk, w, key)
 }
 
-// The used part, uncopied: entry count, spill and the used pairs; no words where the copy is unfit, as the rule has it.
+// The used part, uncopied: entry count, spill and the used pairs; no words where the copy is unfit, as `used_rule` has it.
 #[tactic(auto, unfolding(crate::specs::Copy::used_rule))]
 pub fn used(w: &[u64]) -> &[u64]
     ensures { result.now ≡ used_rule w.now }

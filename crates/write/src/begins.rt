@@ -115,6 +115,8 @@ fn append<B: Operations>(
     }
 }
 
+// Control part, slot and snapshot come one by one here and in the two below, as the promises name them.
+//
 // Append, by how its key is searched: an operation, refused or made. A function beside
 // `extend_by`, since its promise speaks of plain numbers.
 pub fn append_by(

@@ -16,7 +16,7 @@ use table::Answer;
 pub const BATCH_ROOM: usize = 64;
 
 // What a step of the writer, or a call that is made at once, makes of the control part and of the one slot that it looks at. No
-// Result: a refusal too says what they are.
+// Result: a refusal too says what they are (`refused`).
 #[derive(Debug, Clone, Copy, PartialEq, Eq)]
 pub struct Moved {
     pub answer: Answer,

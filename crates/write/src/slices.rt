@@ -82,7 +82,7 @@ pub(crate) fn replay(
 pub(crate) fn synchronize(side: bool, left: &mut [u64], right: &mut [u64])
     ensures { (left.new ≡ of_left side (over (copy_of side left.old right.old)) left.old) × (right.new ≡ of_right side (over (copy_of side left.old right.old)) right.old) }
 {
-    // Not by `aside`: the closure would hold the one copy while the other is lent beside it.
+    // By `aside` it does not prove: the closure would hold the one copy while the other is lent beside it.
     if side {
         copy_over(&right[..], left);
     } else {

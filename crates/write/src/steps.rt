@@ -30,7 +30,7 @@ fn vacated(k: usize, s: Slot) -> Slot
     if s.used { guards::freed(k, s) } else { s }
 }
 
-// The slot that a step looks at: slot 0 where it names none, as the rule has it.
+// The slot that a step looks at: slot 0 where it names none, as the rule `place` has it.
 pub fn place(p: Phase) -> usize
     ensures { result ≡ place_rule p }
 {

@@ -1,3 +1,4 @@
+-- Each turn of the loop is one of the search.
 use Rattle.std.proofs.Common.{◌≡◌, sym, ap, ◌∙◌, rules}
 use Rattle.table.proofs.Seek.{seek_here, seek_next, seek_end}
 use Rattle.read.specs.Machine.{same, is_open}

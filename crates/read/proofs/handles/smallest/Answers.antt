@@ -1,3 +1,4 @@
+-- Each turn of the loop is one of the walk over the signs.
 use Rattle.std.proofs.Common.{rules}
 use Rattle.read.proofs.Verdicts.{walk_stops, walk_passes, walk_ends}
 use Rattle.read.proofs.handles.smallest.Goals as goal
