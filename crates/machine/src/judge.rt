@@ -6,6 +6,7 @@ use read::admission::locks;
 use read::{Control, LOG_ROOM, LOG_WORDS, Phase, SLOTS, State, Verdict, order};
 use table::Answer;
 
+// As `table` has it for itself: a line that is no longer than its import.
 const MOST: u64 = table::PAIRS as u64;
 
 // The pointer is null from take's lock step on.
