@@ -5,7 +5,7 @@ ghost use Rattle.std.specs.Prelude.{◌≡◌, true, false, ◌+◌, ◌*◌, �
 ghost use Rattle.table.specs.Answers.{number as number_rule, outcome, answer_of};
 ghost use Rattle.table.specs.Operation.{operation_of, made_by};
 ghost use Rattle.table.specs.declared.Search.TheVariants.{Halve};
-ghost use Rattle.table.specs.Copy.{entries, words, key_at, passes as passes_rule, first as first_rule, first_from, halved as halved_rule, find_by, place_by, opened, close_rule, zeros, added_by, dropped_by, lawful as lawful_rule, fitness, fits, used_of, Fit, Holds, apply_by, apply_rule, look_by, look_rule, used_rule};
+ghost use Rattle.table.specs.Copy.{entries, words, key_at, passes as passes_rule, first as first_rule, first_from, halved as halved_rule, find_by, place_by, grown as grown_rule, opened, close_rule, zeros, added_by, dropped_by, lawful as lawful_rule, fitness, fits, used_of, Fit, Holds, apply_by, apply_rule, look_by, look_rule, used_rule};
 ghost use Rattle.table.specs.Find.{Found, Missing};
 ghost use Rattle.table.specs.Order.{Rising};
 ghost use Rattle.table.specs.Many.{is_view, filled, told, told_all, Ready, look_all_rule};
@@ -309,6 +309,13 @@ pub fn close_gap(part: &mut [u64], g: usize, m: usize)
     zero(&mut part[m..m + g]);
 }
 
+// The sum, or the largest number where it does not fit.
+fn grown(x: u64, a: u64) -> u64
+    ensures { result ≡ grown_rule x a }
+{
+    x.saturating_add(a)
+}
+
 // `Fit` is asked of the three functions that write the words, and stands in no type: of one around the `&mut` it would have to be proved
 // again behind each write.
 fn add_in(how: Search, w: &mut [u64], key: u64, amount: u64)
@@ -318,8 +325,8 @@ fn add_in(how: Search, w: &mut [u64], key: u64, amount: u64)
     let pairs = Pairs { words: w };
     let n = pairs.count();
     match pairs.find(how, key) {
-        Ok(i) => w[2 * i + 3] = w[2 * i + 3].saturating_add(amount),
-        Err(_) if PAIRS <= n => w[1] = w[1].saturating_add(1),
+        Ok(i) => w[2 * i + 3] = grown(w[2 * i + 3], amount),
+        Err(_) if PAIRS <= n => w[1] = grown(w[1], 1),
         Err(i) => {
             let j = pairs.place(how, key, i);
             open_gap(&mut w[2 * j + 2..], 2 * (n - j), key, amount);

@@ -7,10 +7,10 @@ use Rattle.table.proofs.Parts.{inserted_part}
 use Rattle.table.proofs.add_in.Goals as goal
 
 pub returns-in-Ok : goal.returns-in-Ok
-returns-in-Ok c = rw c.saturating_add.ensures (sym (added_there c.args.amount c.in-Ok.ensures))
+returns-in-Ok c = rw c.grown.ensures (sym (added_there c.args.amount c.in-Ok.ensures))
 
 pub returns-in-Err : goal.returns-in-Err
-returns-in-Err c = rw c.saturating_add-in-Err.ensures (sym (added_full c.args.amount c.in-Err.ensures (rw c.count-n.ensures at c.if-n-ge-PAIRS.true)))
+returns-in-Err c = rw c.grown-in-Err.ensures (sym (added_full c.args.amount c.in-Err.ensures (rw c.count-n.ensures at c.if-n-ge-PAIRS.true)))
 
 pub returns-in-Err-2 : goal.returns-in-Err-2
 returns-in-Err-2 c =
