@@ -3,6 +3,7 @@ ghost use Rattle.std.specs.Prelude.{◌≡◌, ◌&&◌, ◌≤◌, ◌*◌, len
 ghost use Rattle.read.specs.Machine.{nulls as nulls_rule, in_range, first_unlawful, sized as sized_rule, whole_control, glanced, judged};
 
 use read::admission::locks;
+use read::truth::same;
 use read::{Control, LOG_ROOM, LOG_WORDS, Phase, SLOTS, State, Verdict, order};
 use table::Answer;
 
@@ -39,8 +40,8 @@ fn whole_control(c: Control) -> bool
     c.length <= LOG_ROOM
         && c.swapped <= c.length
         && in_range(c)
-        && c.lock == locks(c.phase)
-        && c.null == nulls(c.phase)
+        && same(c.lock, locks(c.phase))
+        && same(c.null, nulls(c.phase))
 }
 
 // The first of `n` logged operations that is not as its kind asks, or `n`, and no Option: the rule `judged` compares the two.

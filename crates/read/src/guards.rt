@@ -3,7 +3,7 @@ ghost use Rattle.std.specs.Prelude.{◌≡◌};
 ghost use Rattle.read.specs.Machine.{is_open, put_guard, first_guard, any_open, all_open, is_due, is_load, no_slot, with_reading, new_slot};
 ghost use Rattle.read.specs.Handles.{made_of, with_due, freed as freed_rule, guarded as guarded_rule, loaded as loaded_rule, entered as entered_rule, went_on, released as released_rule};
 
-use crate::{Control, Due, GUARDS, Guard, Made, Slot};
+use crate::{Control, Due, GUARDS, Guard, Made, Slot, truth};
 use table::Answer;
 
 // The first guard that is open, or that is shut, by what is wanted; their number where there is none, and no Option: the rule `loaded`
@@ -12,7 +12,7 @@ pub(crate) fn first_guard(want: bool, g: [Guard; GUARDS]) -> usize
     ensures { result ≡ first_guard want g }
 {
     for j in 0..GUARDS {
-        if g[j].opened == want {
+        if truth::same(want, g[j].opened) {
             return j;
         }
     }

@@ -5,7 +5,8 @@ ghost use Rattle.table.specs.Copy.{look_by};
 ghost use Rattle.read.specs.Handles.{mistimed as mistimed_rule, leaves_guards, lacks_guard, lacks_room, sign, smallest as smallest_rule, handle_signs, guarded_copy, handled_by, handle_by, create_signs, create_on};
 
 use crate::{
-    Control, Due, GUARDS, Guard, Handle, Made, SLOTS, Sign, Slot, Verdict, admission, guards, order,
+    Control, Due, GUARDS, Guard, Handle, Made, SLOTS, Sign, Slot, Verdict, admission, guards,
+    order, truth,
 };
 use table::{Answer, Search};
 
@@ -78,7 +79,7 @@ pub fn verdict(c: Control, own: bool, s: Slot, h: Handle) -> Verdict
         sign(Answer::NoSlot, !s.used),
         sign(
             Answer::NotNow,
-            e == admission::NOT_NOW || mistimed(h, s.due),
+            truth::either(e == admission::NOT_NOW, mistimed(h, s.due)),
         ),
         sign(Answer::Locked, e == admission::LOCKED),
         sign(Answer::GuardsOpen, leaves_guards(h, s.guards)),

@@ -8,6 +8,7 @@ pub mod admission;
 pub mod guards;
 pub mod handles;
 pub mod order;
+pub mod truth;
 
 ghost use Rattle.std.specs.Prelude.{◌≡◌};
 ghost use Rattle.read.specs.Machine.{fresh};

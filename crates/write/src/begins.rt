@@ -11,7 +11,7 @@ use crate::operations::{Operation, Operations};
 use crate::steps::Part;
 use crate::{Moved, Opening, phases, slices};
 use read::handles::sign;
-use read::{Control, Job, LOG_ROOM, Phase, Slot, Verdict, admission, guards, handles};
+use read::{Control, Job, LOG_ROOM, Phase, Slot, Verdict, admission, guards, handles, truth};
 use table::{Answer, Search};
 
 // The column of append in the table of admissions.
@@ -34,7 +34,7 @@ fn writer_verdict(column: usize, unlawful: bool, full: bool, c: Control, s: Slot
         sign(Answer::Operation, unlawful),
         sign(
             Answer::NotNow,
-            e == admission::NOT_NOW || guards::is_due(s.due),
+            truth::either(e == admission::NOT_NOW, guards::is_due(s.due)),
         ),
         sign(Answer::GuardsOpen, guards::any_open(s.guards)),
         sign(Answer::LogFull, full),
@@ -186,7 +186,7 @@ fn begun(c: Control) -> Control
 fn taking(c: Control) -> Phase
     ensures { result ≡ taking_rule c }
 {
-    if c.first || 0 < c.length {
+    if truth::either(c.first, 0 < c.length) {
         return Phase::Begin;
     }
     Phase::Null

@@ -5,6 +5,8 @@ use Rattle.read.specs.declared.Reply.{Reply}
 use Rattle.read.specs.Calls.{Lent}
 use Rattle.read.proofs.Inner as inner
 use Rattle.machine.proofs.Inner as within
+use Rattle.read.proofs.truth.either.Reads as either
+use Rattle.read.proofs.truth.same.Reads as same
 use Rattle.read.proofs.handles.guarded_copy.Reads as guarded_copy
 use Rattle.read.proofs.fresh_state.Reads as fresh_state
 use Rattle.read.proofs.slot_at.Reads as slot_at
@@ -38,7 +40,6 @@ use Rattle.table.specs.declared.Answer.{Answer}
 use Rattle.table.specs.declared.Search.TheVariants.{Walk}
 use Rattle.read.specs.declared.Sign.{Sign}
 use Rattle.read.specs.Handles.{sign as signed}
-use Rattle.promises.proofs.Read.Promises.{EitherPromise, SamePromise}
 use Rattle.promises.proofs.Contracts.{ref, Determines, DeterminesWords}
 
 fresh_state_determined : Determines fresh_state.Post
@@ -107,11 +108,11 @@ given_determined :
     smallest.Post κs (ref (signed a b ∷ xs), tt) r s → smallest.Post κs (ref (signed a b ∷ xs), tt) q t → r ≡ q
 given_determined κs b a xs = smallest_determined κs (ref (signed a b ∷ xs), tt)
 
-either_determined : (f g : Bool → Bool → Bool) → EitherPromise f → EitherPromise g → (a b : Bool) → f a b ≡ g a b
-either_determined f g h l a b = h a b ∙ sym (l a b)
+either_determined : Determines either.Post
+either_determined κs a r q s t h l = h ∙ sym l
 
-same_determined : (f g : Bool → Bool → Bool) → SamePromise f → SamePromise g → (a b : Bool) → f a b ≡ g a b
-same_determined f g h l a b = h a b ∙ sym (l a b)
+same_determined : Determines same.Post
+same_determined κs a r q s t h l = h ∙ sym l
 
 locks_determined : Determines locks.Post
 locks_determined κs a r q s t h l = h ∙ sym l

@@ -1,7 +1,7 @@
 -- Each public contract as a promise of any program, a program being a function of the arguments (`Contracts`).
 use Prim.Native.Nat.{ℕ}
 use mathlib.Core.Path.{◌≡◌}
-use mathlib.Core.Bool.{Bool, ◌||◌, beq}
+use mathlib.Core.Bool.{Bool, ◌||◌}
 use mathlib.Core.List.{List, ◌∷◌}
 use Rattle.promises.proofs.Contracts.{typed, Words, ref, Refs, lends, mut_refs, mut_lends, κ₁, κ₂, κ₃, Leaves, Keeps, Keeps1, Keeps2}
 use Rattle.table.specs.declared.Answer.{Answer}
@@ -23,7 +23,6 @@ use Rattle.read.specs.declared.Handle.TheVariants.{Drop, Enter, GoOn, Release, L
 use Rattle.read.specs.Admission.{entry}
 use Rattle.read.specs.Handles.{sign, given, smallest, handle_signs, freed, entered, went_on, released, guarded_copy, handle_by, handle_on, create_on}
 use Rattle.read.specs.Calls.{Lent, slot_at, handle_rule, create_rule, view_rule, pair_rule, start_rule}
-use Rattle.read.proofs.Same.{same_beq}
 use Rattle.read.proofs
 use Rattle.machine.proofs as whole
 use Rattle.machine.proofs.Inner as within
@@ -134,12 +133,12 @@ OrderlyPromise = Keeps1 (typed tt proofs.order.orderly.Kinds.ps) (proofs.order.o
 
 -- ---- the judgement
 
--- what is true of one of two truth values, and of both or neither; the code says it by the language's own operators
+-- what is true of one of two truth values, and of both or neither
 abbrev pub EitherPromise : (Bool → Bool → Bool) → Type 0
-EitherPromise f = (a b : Bool) → f a b ≡ (a || b)
+EitherPromise = Keeps2 (typed tt proofs.truth.either.Kinds.ps) (proofs.truth.either.Reads.Post tt)
 
 abbrev pub SamePromise : (Bool → Bool → Bool) → Type 0
-SamePromise f = (a b : Bool) → f a b ≡ beq b a
+SamePromise = Keeps2 (typed tt proofs.truth.same.Kinds.ps) (proofs.truth.same.Reads.Post tt)
 
 abbrev pub LocksPromise : (Phase → Bool) → Type 0
 LocksPromise = Keeps1 (typed tt proofs.admission.locks.Kinds.ps) (proofs.admission.locks.Reads.Post tt)
@@ -231,4 +230,4 @@ pub kept :
     × ReleasePromise (λ i j. handle_rule i (Release j)) × LookUpPromise (λ i j key. handle_rule i (LookUp j key))
     × ViewPromise view_rule × PairPromise pair_rule
 unfolding smallest look_by look_rule
-kept = search same_beq
+kept = search

@@ -418,17 +418,17 @@ gives_first_wrong h = apart verdict refl (h (sign answer.Gone false ∷ []) refl
 
 -- either is both, or the first alone
 either_both_wrong : EitherPromise ◌&&◌ → ⊥
-either_both_wrong h = apart bit refl (h true false)
+either_both_wrong h = apart bit refl (h true false refl)
 
 either_first_wrong : EitherPromise (λ a b. a) → ⊥
-either_first_wrong h = apart bit refl (h false true)
+either_first_wrong h = apart bit refl (h false true refl)
 
 -- the same is either, or both
 same_either_wrong : SamePromise ◌||◌ → ⊥
-same_either_wrong h = apart bit refl (h true false)
+same_either_wrong h = apart bit refl (h true false refl)
 
 same_both_wrong : SamePromise ◌&&◌ → ⊥
-same_both_wrong h = apart bit refl (h false false)
+same_both_wrong h = apart bit refl (h false false refl)
 
 -- all that is under way holds the lock; nothing does
 locks_underway_wrong : LocksPromise underway → ⊥

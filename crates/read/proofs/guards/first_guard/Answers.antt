@@ -3,18 +3,17 @@ use Rattle.std.proofs.Common.{◌≡◌, sym, ap, ◌∙◌, rules}
 use Rattle.table.proofs.Seek.{seek_here, seek_next, seek_end}
 use Rattle.read.specs.Machine.{same, is_open}
 use Rattle.read.proofs.Cases.{open_in}
-use Rattle.read.proofs.Same.{same_beq}
 use Rattle.read.proofs.guards.first_guard.Goals as goal
 
-pub returns-then-g-j : goal.returns-then-g-j
-returns-then-g-j c =
+pub returns-then-same : goal.returns-then-same
+returns-then-same c =
     let a = c.args in
-    let j = c.loop-j.j in sym (c.loop-j.invariant ∙ seek_here (λ j. same a.want (is_open a.g j)) j 4 (search rules) (ap (same a.want) (open_in a.g j (search rules)) ∙ same_beq a.want _ ∙ c.if-g-j.true))
+    let j = c.loop-j.j in sym (c.loop-j.invariant ∙ seek_here (λ j. same a.want (is_open a.g j)) j 4 (search rules) (ap (same a.want) (open_in a.g j (search rules)) ∙ sym c.same.ensures ∙ c.if-same.true))
 
 pub loop-j-preserved : goal.loop-j-preserved
 loop-j-preserved c =
     let a = c.args in
-    let j = c.loop-j.j in c.loop-j.invariant ∙ seek_next (λ j. same a.want (is_open a.g j)) j 4 (search rules) (ap (same a.want) (open_in a.g j (search rules)) ∙ same_beq a.want _ ∙ c.if-g-j.false)
+    let j = c.loop-j.j in c.loop-j.invariant ∙ seek_next (λ j. same a.want (is_open a.g j)) j 4 (search rules) (ap (same a.want) (open_in a.g j (search rules)) ∙ sym c.same.ensures ∙ c.if-same.false)
 
 pub returns : goal.returns
 returns c =
