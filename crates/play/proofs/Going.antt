@@ -41,13 +41,23 @@ use Rattle.write.proofs.Rising.{step_rising}
 use Rattle.play.specs.declared.turns.Far.{Far}
 use Rattle.play.specs.declared.turns.Far.TheVariants as far
 use Rattle.play.specs.Player.{machine}
-use Rattle.play.specs.Turns.{meant, is_going, is_running, halt, halt_of, facing, went_on}
+use Rattle.play.specs.Turns.{meant, members_of, is_going, is_running, halt, halt_of, facing, went_on}
 use Rattle.play.proofs.Run.{run_from, run_starts, run_over, run_unrolls}
 use Rattle.play.proofs.Turned.{read_slot}
 use Rattle.read.proofs.Cases.{state_of}
 use Rattle.read.proofs.Phases.{idle_cases, underway_stays}
 use Rattle.write.proofs.Count.{left}
 use Rattle.write.proofs.Refusals.{lifted_same}
+
+-- no records belong to it
+pub going_alone : (k : Act) → is_going k ≡ true → members_of k ≡ 0
+going_alone act.Create p = refl
+going_alone (act.On i h) p = refl
+going_alone (act.Append kind key amount) p = refl
+going_alone (act.Batch n) p = absurd (true≢false (sym p))
+going_alone (act.Open o) p = refl
+going_alone act.Step p = refl
+going_alone act.Run p = refl
 
 -- ---- what halts a step
 

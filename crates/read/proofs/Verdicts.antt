@@ -7,7 +7,7 @@ use Rattle.table.proofs.Booleans.{both}
 use Rattle.read.specs.Machine.{Verdict}
 use Rattle.std.specs.Prelude.{Ok, Err}
 use Rattle.read.specs.declared.Sign.{Sign}
-use Rattle.read.specs.Handles.{given, smallest}
+use Rattle.read.specs.Handles.{sign, given, smallest}
 
 pub refused_not : {a : Answer} {C : Type 0} → ◌≡◌ {A = Verdict} (Err a) (Ok tt) → C
 refused_not e = let z : ◌≡◌ {A = ℕ} 0 1 = cc in absurd (omega arith)
@@ -63,6 +63,17 @@ smallest_mild (x ∷ xs) h =
 
 pub refused_mild : (xs : List Sign) → mild xs ≡ true → (a : Answer) → smallest xs ≡ Err a → Refusal a
 refused_mild xs h a e = subst Mild e (smallest_mild xs h)
+
+-- ---- one sign before others
+
+-- one before those that were judged
+pub push : (a : Answer) (b : Bool) (xs : List Sign) {x : Bool} {v r : Verdict} → r ≡ given x a v → x ≡ b → v ≡ smallest xs → r ≡ smallest (sign a b ∷ xs)
+unfolding smallest
+push a b xs e q h = e ∙ (λ i. given (q i) a (h i))
+
+pub first_none : {v : Verdict} → v ≡ Ok tt → v ≡ smallest []
+unfolding smallest
+first_none h = h
 
 -- ---- a walk over the signs
 

@@ -5,9 +5,10 @@ use mathlib.Core.List.{List, ◌++◌, append-nil}
 use native.Mathlib.Omega.{arith}
 use borrow.Rule.Slice.PartMut.{mid_of, put_mid}
 use lib.ListN.{length, take, drop, set, length-drop, drop_of_length-le}
-use lib.Seq.{take_all}
-use Rattle.table.specs.Copy.{entries, opened, close_rule, inserted, removed, Fit}
+use lib.Seq.{length-take-le, take_all, take_at, drop_at, drop-drop}
+use Rattle.table.specs.Copy.{entries, opened, closed, close_rule, inserted, removed, zeros, Fit}
 use Rattle.table.proofs.Cases.{close_room}
+use Rattle.table.proofs.Moves.{over}
 
 -- ---- a part up to the end
 
@@ -32,3 +33,16 @@ pub removed_part :
 removed_part i w f l =
     let room : 2 + 2 * (entries w - i - 1) ≤ length (drop (2 * i + 2) w) = simp length-drop (omega arith) in
     rw (put_end (2 * i + 2) w, mid_end (2 * i + 2) w, close_room 2 (2 * (entries w - i - 1)) (drop (2 * i + 2) w) room)
+
+-- ---- a part within
+
+-- m words have moved down by g, and the g words behind them are zeroed
+pub closed_part :
+    (g m : ℕ) (p : List ℕ) → g + m ≤ length p →
+    put_mid m (m + g - m) (over m (drop g p) p) (zeros (mid_of m (m + g - m) (over m (drop g p) p))) ≡ closed g m p
+closed_part g m p h =
+    let e : m + g - m ≡ g = omega arith in
+    let d : m + g ≡ g + m = omega arith in
+    let k : length (take m (drop g p)) ≡ m = length-take-le m (drop g p) (simp length-drop (omega arith)) in
+    let z : length (take g (drop m p)) ≡ g = length-take-le g (drop m p) (simp length-drop (omega arith)) in
+    rw (e, take_at (take m (drop g p)) (drop m p) m k, drop_at (take m (drop g p)) (drop m p) m k, z, drop-drop g m p, d)

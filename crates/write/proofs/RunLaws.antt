@@ -251,6 +251,9 @@ module _ {o : Lent Reply} {k n : ℕ} {c : Control} {ss : List Slot} {es l r g :
 abbrev pub scanning : Control → ℕ → Control
 scanning c i = at (scanning_at c.phase c i) c
 
+pub scanning_poll : (c : Control) (i : ℕ) {j : ℕ} → c.phase ≡ Poll j → scanning c i ≡ at (polling c i) c
+scanning_poll c i e = ap (λ (p : Phase). at (scanning_at p c i) c) e
+
 -- the run stands there
 abbrev pub Scans : Lent Reply → ℕ → ℕ → Control → ℕ → List Slot → List ℕ → List ℕ → List ℕ → List ℕ → Type 0
 Scans o k n c i ss es l r g = Goes o k n (scanning c i) ss es l r g

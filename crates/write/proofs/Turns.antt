@@ -7,13 +7,15 @@ use Rattle.read.specs.declared.Slot.{Slot}
 use Rattle.read.specs.declared.Phase.{Phase}
 use Rattle.read.specs.declared.Phase.TheVariants.{Idle, Begin, Poll, Copy, Drain, Keep, Swap, Snap, Null, Lock, LastSnap, LastPoll, Finish, Gone}
 use Rattle.read.specs.declared.Control.{Control}
+use Rattle.read.specs.declared.State.{State}
 use Rattle.read.specs.declared.Reply.{Reply}
 use Rattle.read.specs.Machine.{slot_total, slot_count, no_slot, underway, place}
-use Rattle.read.specs.Calls.{Lent, lent}
+use Rattle.read.specs.Calls.{Lent, lent, slot_at}
 use Rattle.read.proofs.Cases.{state_of}
 use Rattle.write.specs.declared.Moved.{Moved}
 use Rattle.write.specs.Steps.{holds, step_at}
 use Rattle.write.specs.Scans.{polls, halt_answer, halted}
+use Rattle.write.specs.Runs.{snap_at, put_back, lift, step_on}
 use Rattle.write.proofs.Control.{Placed, Whole}
 use Rattle.write.proofs.RunLaws.{Goes, Scans, scanning, goes_made, scan_start, scan_passed, scan_stopped}
 
@@ -37,6 +39,17 @@ placed_below n s Gone h = omega arith
 -- the slot that a step looks at is there
 pub place_below : {c : Control} {i : ℕ} → Whole c → i ≡ place c.phase → i < slot_total
 place_below {c} w e = subst (λ (i : ℕ). i < slot_total) (sym e) (placed_below c.length c.swapped c.phase w.placed)
+
+-- a move at slot i, put back
+pub step_lifted :
+    (st : State) (l r g : List ℕ) {i : ℕ} {s : Slot} {m : Moved} {l' r' g' : List ℕ} {q : Reply} →
+    i ≡ place st.control.phase → s ≡ slot_at st i → lent m l' r' g' ≡ step_at st.control.phase st.control s (snap_at st i) l r g →
+    q ≡ put_back i st m → lent q l' r' g' ≡ step_on st l r g
+unfolding step_on
+step_lifted st l r g {i} {l' = l'} {r' = r'} {g' = g'} p e h x =
+    ap (λ (q : Reply). lent q l' r' g') x
+    ∙ ap (λ (o : Lent Moved). lift i st o) (h ∙ ap (λ (s : Slot). step_at st.control.phase st.control s (snap_at st i) l r g) e)
+    ∙ ap (λ (j : ℕ). lift j st (step_at st.control.phase st.control (slot_at st j) (snap_at st j) l r g)) p
 
 -- ---- a run's loops
 
