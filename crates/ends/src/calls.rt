@@ -69,24 +69,44 @@ fn left_by(mut state: State, i: usize, guard: usize) -> Reply {
     }
 }
 
-// A call on the machine.
+// The slot and the guard that a line names.
+fn slot(line: &[u8]) -> usize {
+    value(line, 1) as usize
+}
+
+fn guard(line: &[u8]) -> usize {
+    value(line, 2) as usize
+}
+
+// A call on the machine. A number is read where a call asks for it: most lines are none of these, and a word may be long.
 fn on_machine(line: &[u8], state: State, lent: Lent<'_>) -> Option<Reply> {
     let Lent { left, right, log } = lent;
-    let x = value(line, 1);
-    let y = value(line, 2);
-    let z = value(line, 3);
-    let slot = x as usize;
-    let guard = y as usize;
     let reply = match word(line, 0) {
         b"start" => machine::start(left, right, log),
         b"create" => machine::create(state, left, right, log),
-        b"drop" => machine::drop(state, slot, left, right, log),
-        b"enter" => machine::enter(state, slot, left, right, log),
-        b"go-on" => machine::go_on(state, slot, left, right, log),
-        b"release" => machine::release(state, slot, guard, left, right, log),
-        b"look-up" => machine::look_up(state, slot, guard, z, left, right, log),
-        b"was-dropped" => machine::was_dropped(state, slot, left, right, log),
-        b"append" => machine::append(state, x, y, z, left, right, log),
+        b"drop" => machine::drop(state, slot(line), left, right, log),
+        b"enter" => machine::enter(state, slot(line), left, right, log),
+        b"go-on" => machine::go_on(state, slot(line), left, right, log),
+        b"release" => machine::release(state, slot(line), guard(line), left, right, log),
+        b"look-up" => machine::look_up(
+            state,
+            slot(line),
+            guard(line),
+            value(line, 3),
+            left,
+            right,
+            log,
+        ),
+        b"was-dropped" => machine::was_dropped(state, slot(line), left, right, log),
+        b"append" => machine::append(
+            state,
+            value(line, 1),
+            value(line, 2),
+            value(line, 3),
+            left,
+            right,
+            log,
+        ),
         b"extend" => extended(line, state, Lent { left, right, log }),
         b"publish" => machine::publish(state, left, right, log),
         b"try" => machine::try_publish(state, left, right, log),
@@ -94,7 +114,7 @@ fn on_machine(line: &[u8], state: State, lent: Lent<'_>) -> Option<Reply> {
         b"take" => machine::take(state, left, right, log),
         b"step" => machine::step(state, left, right, log),
         b"run" => machine::run(state, left, right, log),
-        b"leave" => left_by(state, slot, guard),
+        b"leave" => left_by(state, slot(line), guard(line)),
         _ => return None,
     };
     Some(reply)
@@ -103,14 +123,12 @@ fn on_machine(line: &[u8], state: State, lent: Lent<'_>) -> Option<Reply> {
 // A call on words alone.
 fn on_words(line: &[u8], lent: Lent<'_>) -> Option<Answer> {
     let Lent { left, right, log } = lent;
-    let x = value(line, 1);
-    let y = value(line, 2);
     let answer = match word(line, 0) {
-        b"apply" => table::apply(left, x, y, value(line, 3)),
-        b"add" => table::add(left, x, y),
-        b"remove" => table::drop(left, x),
+        b"apply" => table::apply(left, value(line, 1), value(line, 2), value(line, 3)),
+        b"add" => table::add(left, value(line, 1), value(line, 2)),
+        b"remove" => table::drop(left, value(line, 1)),
         b"clear" => table::clear(left),
-        b"close-gap" => slices::closed(left, x as usize, y as usize),
+        b"close-gap" => slices::closed(left, value(line, 1) as usize, value(line, 2) as usize),
         b"fill" => slices::filled(left),
         b"find-all" => table::look_up_all(left, right, log),
         b"find-each" => slices::find_each(left, right, log),
@@ -122,14 +140,25 @@ fn on_words(line: &[u8], lent: Lent<'_>) -> Option<Answer> {
 // ---- parts
 
 fn part<'a>(line: &[u8], state: State, lent: &'a Lent<'_>) -> Option<&'a [u64]> {
-    let x = value(line, 1);
-    let slot = x as usize;
-    let guard = value(line, 2) as usize;
-    let key = value(line, 3);
     let part = match word(line, 0) {
-        b"view" => machine::view(state, slot, guard, lent.left, lent.right, lent.log),
-        b"pair" => machine::pair(state, slot, guard, key, lent.left, lent.right, lent.log),
-        b"find" => table::look_up(lent.left, x),
+        b"view" => machine::view(
+            state,
+            slot(line),
+            guard(line),
+            lent.left,
+            lent.right,
+            lent.log,
+        ),
+        b"pair" => machine::pair(
+            state,
+            slot(line),
+            guard(line),
+            value(line, 3),
+            lent.left,
+            lent.right,
+            lent.log,
+        ),
+        b"find" => table::look_up(lent.left, value(line, 1)),
         b"used" => table::used(lent.left),
         _ => return None,
     };
@@ -143,7 +172,9 @@ fn show(to: Stdout, line: &[u8], state: State, lent: Lent<'_>) {
     }
     let Lent { left, right, .. } = lent;
     if let b"apart" = word(line, 0) {
-        say(to, format_args!(" -> {}", apart(left, right).words));
+        // Taken out first: lent beside the digest, it would cost that too.
+        let words = apart(left, right).words;
+        say(to, format_args!(" -> {words}"));
     }
 }
 

@@ -213,12 +213,19 @@ pub(crate) fn say_state(to: Stdout, before: &State, after: &State) {
 
 // A line that sets up a part of the state.
 pub(crate) fn set_up(line: &[u8], state: &mut State) {
-    let i = value(line, 1) as usize;
     match word(line, 0) {
         b"set" => set_field(&mut state.control, word(line, 1), value(line, 2)),
         b"phase" => state.control.phase = phase_of(word(line, 1), value(line, 2) as usize),
-        b"slot" if i < SLOTS => state.slots[i] = slot_of(line),
-        b"snapshot" if i < SLOTS => state.snapshots[i] = value(line, 2),
+        b"slot" => {
+            if let Some(slot) = state.slots.get_mut(value(line, 1) as usize) {
+                *slot = slot_of(line);
+            }
+        }
+        b"snapshot" => {
+            if let Some(snapshot) = state.snapshots.get_mut(value(line, 1) as usize) {
+                *snapshot = value(line, 2);
+            }
+        }
         _ => {}
     }
 }

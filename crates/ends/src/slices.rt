@@ -87,10 +87,11 @@ pub(crate) fn set_up(line: &[u8], words: &mut [u64]) {
     paint(words, line, Pattern::named(word(bare(line), 1)));
 }
 
-// The words of a batch.
+// The words of a batch, with those of a log behind the ones given, unless its count is a pattern's name that a comment cuts short.
 pub(crate) fn ops(line: &[u8]) -> [u64; OPS] {
     let mut ops = [0; OPS];
-    paint(&mut ops, line, Some(Pattern::Logged));
+    let pattern = Pattern::named(word(bare(line), 1)).unwrap_or(Pattern::Logged);
+    paint(&mut ops, line, Some(pattern));
     ops
 }
 
