@@ -43,17 +43,12 @@ impl Page {
         Ok(())
     }
 
-    fn put(&mut self, byte: u8) {
-        if self.len < SIZE {
-            self.bytes[self.len] = byte;
-            self.len += 1;
-        }
-    }
-
     // Blanks up to a column.
     pub(crate) fn blanks_to(&mut self, column: usize) {
-        for _ in self.len..column {
-            self.put(b' ');
+        let end = column.min(SIZE);
+        if self.len < end {
+            self.bytes[self.len..end].fill(b' ');
+            self.len = end;
         }
     }
 
@@ -64,10 +59,12 @@ impl Page {
 }
 
 impl Write for Page {
+    // At once: a line has a dozen pieces, and most have some bytes.
     fn write_str(&mut self, text: &str) -> fmt::Result {
-        for byte in text.bytes() {
-            self.put(byte);
-        }
+        let n = text.len().min(SIZE - self.len);
+        let end = self.len + n;
+        self.bytes[self.len..end].copy_from_slice(&text.as_bytes()[..n]);
+        self.len = end;
         Ok(())
     }
 }

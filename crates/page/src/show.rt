@@ -24,8 +24,10 @@ const ANSWERS: [&str; 16] = [
     "none",
 ];
 
-// The width of the call's column.
+// The widths of the columns of the call, and of the answer's name with the blank before it.
 const CALL_WIDE: usize = 34;
+
+const MEANING_WIDE: usize = 14;
 
 // An operation's kind: its name, or its number where it has none. The numbers are the file's, and get their text here alone.
 #[derive(Clone, Copy)]
@@ -110,7 +112,11 @@ fn line(page: &mut Page, number: usize, call: Call, entry: Entry) {
     write!(page, "{call}");
     page.blanks_to(column);
     let meaning = ANSWERS.get(usize::from(answer)).copied().unwrap_or("?");
-    writeln!(page, "{answer:>4} {meaning:<13}{value}");
+    write!(page, "{answer:>4}");
+    let column = page.len() + MEANING_WIDE;
+    write!(page, " {meaning}");
+    page.blanks_to(column);
+    writeln!(page, "{value}");
 }
 
 // One that belongs to the batch above it: indented, and with no entry.
