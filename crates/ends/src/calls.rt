@@ -79,9 +79,9 @@ fn guard(line: &[u8]) -> usize {
 }
 
 // A call on the machine. A number is read where a call asks for it: most lines are none of these, and a word may be long.
-fn on_machine(line: &[u8], state: State, lent: Lent<'_>) -> Option<Reply> {
+fn on_machine(name: &[u8], line: &[u8], state: State, lent: Lent<'_>) -> Option<Reply> {
     let Lent { left, right, log } = lent;
-    let reply = match word(line, 0) {
+    let reply = match name {
         b"start" => machine::start(left, right, log),
         b"create" => machine::create(state, left, right, log),
         b"drop" => machine::drop(state, slot(line), left, right, log),
@@ -121,9 +121,9 @@ fn on_machine(line: &[u8], state: State, lent: Lent<'_>) -> Option<Reply> {
 }
 
 // A call on words alone.
-fn on_words(line: &[u8], lent: Lent<'_>) -> Option<Answer> {
+fn on_words(name: &[u8], line: &[u8], lent: Lent<'_>) -> Option<Answer> {
     let Lent { left, right, log } = lent;
-    let answer = match word(line, 0) {
+    let answer = match name {
         b"apply" => table::apply(left, value(line, 1), value(line, 2), value(line, 3)),
         b"add" => table::add(left, value(line, 1), value(line, 2)),
         b"remove" => table::drop(left, value(line, 1)),
@@ -139,8 +139,8 @@ fn on_words(line: &[u8], lent: Lent<'_>) -> Option<Answer> {
 
 // ---- parts
 
-fn part<'a>(line: &[u8], state: State, lent: &'a Lent<'_>) -> Option<&'a [u64]> {
-    let part = match word(line, 0) {
+fn part<'a>(name: &[u8], line: &[u8], state: State, lent: &'a Lent<'_>) -> Option<&'a [u64]> {
+    let part = match name {
         b"view" => machine::view(
             state,
             slot(line),
@@ -165,13 +165,13 @@ fn part<'a>(line: &[u8], state: State, lent: &'a Lent<'_>) -> Option<&'a [u64]> 
     Some(part)
 }
 
-fn show(to: Stdout, line: &[u8], state: State, lent: Lent<'_>) {
-    if let Some(words) = part(line, state, &lent) {
+fn show(to: Stdout, name: &[u8], line: &[u8], state: State, lent: Lent<'_>) {
+    if let Some(words) = part(name, line, state, &lent) {
         say(to, format_args!(" -> {}", words.len()));
         say_words(to, b" words", &[], words);
     }
     let Lent { left, right, .. } = lent;
-    if let b"apart" = word(line, 0) {
+    if let b"apart" = name {
         // Taken out first: lent beside the digest, it would cost that too.
         let words = apart(left, right).words;
         say(to, format_args!(" -> {words}"));
@@ -207,11 +207,11 @@ impl World {
         }
     }
 
-    fn called(&mut self, line: &[u8]) -> Option<Reply> {
+    fn called(&mut self, name: &[u8], line: &[u8]) -> Option<Reply> {
         let state = self.state;
-        match on_machine(line, state, self.lent()) {
+        match on_machine(name, line, state, self.lent()) {
             Some(reply) => Some(reply),
-            None => on_words(line, self.lent()).map(|answer| answered(answer, state)),
+            None => on_words(name, line, self.lent()).map(|answer| answered(answer, state)),
         }
     }
 
@@ -221,8 +221,8 @@ impl World {
         self.state = machine::start(left, right, log).state;
     }
 
-    fn set_up(&mut self, line: &[u8]) {
-        match word(line, 0) {
+    fn set_up(&mut self, name: &[u8], line: &[u8]) {
+        match name {
             b"left" => slices::set_up(line, &mut self.left),
             b"right" => slices::set_up(line, &mut self.right),
             b"log" => slices::set_up(line, &mut self.log),
@@ -234,7 +234,7 @@ impl World {
                 }
             }
             b"fresh" => self.start_anew(),
-            _ => records::set_up(line, &mut self.state),
+            _ => records::set_up(name, line, &mut self.state),
         }
     }
 
@@ -252,14 +252,16 @@ impl World {
     pub(crate) fn tell(&mut self, to: Stdout, line: &[u8]) {
         let before = *self;
         put(to, line);
-        match self.called(line) {
+        // Looked for once: it may be long.
+        let name = word(line, 0);
+        match self.called(name, line) {
             Some(reply) => {
                 self.state = reply.state;
                 self.say_reply(to, &before, reply);
             }
             None => {
-                show(to, line, before.state, self.lent());
-                self.set_up(line);
+                show(to, name, line, before.state, self.lent());
+                self.set_up(name, line);
             }
         }
         say(to, "\n");

@@ -212,8 +212,8 @@ pub(crate) fn say_state(to: Stdout, before: &State, after: &State) {
 }
 
 // A line that sets up a part of the state.
-pub(crate) fn set_up(line: &[u8], state: &mut State) {
-    match word(line, 0) {
+pub(crate) fn set_up(name: &[u8], line: &[u8], state: &mut State) {
+    match name {
         b"set" => set_field(&mut state.control, word(line, 1), value(line, 2)),
         b"phase" => state.control.phase = phase_of(word(line, 1), value(line, 2) as usize),
         b"slot" => {

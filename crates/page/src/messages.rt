@@ -120,7 +120,10 @@ pub(crate) fn tell(rt: &HostRuntime, problem: Problem) -> io::Result<()> {
     let mut room = [0u8; PATH];
     let name = name(rt, &mut room);
     match problem {
-        Problem::Usage => say(rt, b"wanted", "play FILE, or show FILE"),
+        // At once: who reads no more than its begin must not change what comes of it.
+        Problem::Usage => unless_closed(
+            rt.stderr().println("lrt: wanted: play FILE, or show FILE"),
+        ),
         Problem::Path(error) => say_error(rt, b"FILE", error),
         Problem::File(error) => say_error(rt, name, error),
         Problem::TooLong => say(

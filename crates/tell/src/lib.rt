@@ -93,23 +93,32 @@ fn longer(n: u64, b: u8) -> u64 {
     }
 }
 
-fn term(digits: &[u8]) -> u64 {
-    digits.iter().fold(0, |n, b| longer(n, *b))
-}
-
-// The first term less the others.
-fn difference(terms: &[u8]) -> u64 {
-    let mut terms = terms.split(|b| *b == b'-').map(term);
-    let first = terms.next().unwrap_or(0);
-    terms.fold(first, |rest, x| rest.wrapping_sub(x))
+// A sum with a term more, or less.
+fn with_term(sum: u64, is_less: bool, term: u64) -> u64 {
+    if is_less {
+        sum.wrapping_sub(term)
+    } else {
+        sum.wrapping_add(term)
+    }
 }
 
 // What a word says: decimal numbers and sizes (S slots, G guards, P pairs, W words, R log room, L log words, T the largest number),
 // with + and - between them.
 pub fn number(word: &[u8]) -> u64 {
-    word.split(|b| *b == b'+')
-        .map(difference)
-        .fold(0, |sum: u64, x| sum.wrapping_add(x))
+    let mut sum = 0;
+    let mut is_less = false;
+    let mut term = 0;
+    for b in word {
+        match *b {
+            b'+' | b'-' => {
+                sum = with_term(sum, is_less, term);
+                is_less = *b == b'-';
+                term = 0;
+            }
+            b => term = longer(term, b),
+        }
+    }
+    with_term(sum, is_less, term)
 }
 
 // The number that word `k` of a line says; 0 where there is none.
