@@ -164,6 +164,18 @@ impl Iterator for ChangedWords<'_> {
     }
 }
 
+// How many words are not as they were before.
+fn count(before: &[u64], after: &[u64]) -> u64 {
+    let changed = before
+        .iter()
+        .zip(after)
+        .fold(0, |n: u64, (x, y)| n.wrapping_add(u64::from(x != y)));
+    let behind = after.get(before.len()..).unwrap_or(&[]);
+    behind
+        .iter()
+        .fold(changed, |n, x| n.wrapping_add(u64::from(*x != 0)))
+}
+
 fn mix(h: u64, x: u64) -> u64 {
     h % PRIME * 31 + x % PRIME
 }
@@ -203,16 +215,16 @@ fn list(to: Stdout, changes: ChangedWords<'_>) {
     }
 }
 
-// What words became, under a name; nothing where they are as before.
+// What words became, under a name; nothing where they are as before. A call leaves most as they are, so they are counted first.
 pub fn say_words(to: Stdout, name: &[u8], before: &[u64], after: &[u64]) {
-    let Differing { words, digest } = apart(before, after);
-    match words {
+    match count(before, after) {
         0 => {}
         1..=LISTED => {
             put(to, name);
             list(to, changes(before, after));
         }
-        _ => {
+        words => {
+            let digest = apart(before, after).digest;
             put(to, name);
             say(to, format_args!(" {words} in all, digest {digest}"));
         }
